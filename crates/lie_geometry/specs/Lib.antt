@@ -1,0 +1,12 @@
+pub mod Coordinates
+pub mod SolvedEquations
+pub mod Prolongation
+pub mod Invariance
+pub mod Commutator
+pub mod SymbolicProlongation
+pub mod DeterminingEquations
+pub mod FirstOrder
+pub mod CoordinateLaws
+pub mod ProlongationLaws
+pub mod InvarianceLaws
+pub mod WorkedValues

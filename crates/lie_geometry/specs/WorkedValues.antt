@@ -1,0 +1,67 @@
+-- Worked values. For p = q = 1 the variables with the numbers 0, 1, 2, 3 are x, u, u_x, u_xx.
+use Rattle.std.specs.Prelude.{◌≡◌, ℕ, List, [], ◌∷◌, map, ℤ, pos, negsuc}
+use Rattle.lie_math.specs.Counts.{Derivative}
+use Rattle.lie_math.specs.Monomial.{unit, monomial_of}
+use Rattle.lie_math.specs.Polynomial.{WholePolynomial, polynomial_of, 0ᴾ, constant, variable}
+use Rattle.lie_math.specs.VectorField.{VectorField, component}
+use Rattle.lie_geometry.specs.Coordinates.{Space, jet, number}
+use Rattle.lie_geometry.specs.DeterminingEquations.{determining_equation}
+use Rattle.lie_geometry.specs.FirstOrder.{one_of_each, first_order_equation}
+use Rattle.lie_geometry.specs.Invariance.{IsInvariant}
+use Rattle.lie_geometry.specs.Prolongation.{total_derivative, prolonged_coefficient}
+use Rattle.lie_geometry.specs.SolvedEquations.{SolvedEquation}
+use Rattle.lie_geometry.specs.SymbolicProlongation.{symbolic_coefficient}
+
+-- the sum of terms, each a list of variables with exponents and a number
+abbrev pub written : List (List (ℕ × ℕ) × ℤ) → WholePolynomial
+written ts = polynomial_of (map (λ t. (monomial_of t.0, t.1)) ts)
+
+abbrev pub two_and_one : Space
+two_and_one = record { p = 2; q = 1 }
+
+-- u, u_x, u_xx and the derivative of order 12; and with two independent variables u_x, u_y, u_xx, u_xy, u_yy
+abbrev pub JetNumbers : Type 0
+JetNumbers =
+    (map (number one_of_each) (jet 0 (0 ∷ []) ∷ jet 0 (1 ∷ []) ∷ jet 0 (2 ∷ []) ∷ jet 0 (12 ∷ []) ∷ []) ≡ 1 ∷ 2 ∷ 3 ∷ 13 ∷ [])
+    × (map (number two_and_one) (jet 0 (1 ∷ 0 ∷ []) ∷ jet 0 (0 ∷ 1 ∷ []) ∷ jet 0 (2 ∷ 0 ∷ []) ∷ jet 0 (1 ∷ 1 ∷ []) ∷ jet 0 (0 ∷ 2 ∷ []) ∷ []) ≡ 3 ∷ 4 ∷ 5 ∷ 6 ∷ 7 ∷ [])
+
+-- the total derivative of x*u_x^2 is 2*x*u_x*u_xx + u_x^2
+abbrev pub TotalOfProduct : Type 0
+TotalOfProduct =
+    total_derivative one_of_each 0 (written (((0, 1) ∷ (2, 2) ∷ [], pos 1) ∷ [])) ≡ written (((0, 1) ∷ (2, 1) ∷ (3, 1) ∷ [], pos 2) ∷ ((2, 2) ∷ [], pos 1) ∷ [])
+
+-- the field a*d_x + b*d_u
+abbrev pub plane_field : WholePolynomial → WholePolynomial → VectorField
+plane_field a b = record { denominator = 1; parts = a ∷ b ∷ [] }
+
+-- the coefficients of u*d_x at u, u_x and u_xx are 0, -u_x^2 and -3*u_x*u_xx
+abbrev pub FieldProlonged : Type 0
+FieldProlonged =
+    map (prolonged_coefficient one_of_each (component (plane_field (variable 1) 0ᴾ)) 0) ([] ∷ (0 ∷ []) ∷ (0 ∷ 0 ∷ []) ∷ [])
+    ≡ 0ᴾ ∷ written (((2, 2) ∷ [], negsuc 0) ∷ []) ∷ written (((2, 1) ∷ (3, 1) ∷ [], negsuc 2) ∷ []) ∷ []
+
+-- u_x = u
+abbrev pub growth : List SolvedEquation
+growth = first_order_equation (variable 1) ∷ []
+
+-- it is kept by d_x and by u*d_u, and not by d_u
+abbrev pub GrowthInvariant : Type 0
+GrowthInvariant =
+    IsInvariant one_of_each growth (plane_field (constant (pos 1)) 0ᴾ) × IsInvariant one_of_each growth (plane_field 0ᴾ (variable 1)) × (¬ (IsInvariant one_of_each growth (plane_field 0ᴾ (constant (pos 1)))))
+
+-- a derivative of the unknown n, with its coefficient
+abbrev pub entry : ℕ → List ℕ → List (List (ℕ × ℕ) × ℤ) → Derivative × WholePolynomial
+entry n J ts = (record { unknown = n; counts = J }, written ts)
+
+-- the symbolic coefficient at u_x: f2_x + u_x*f2_u - u_x*f1_x - u_x^2*f1_u
+abbrev pub SymbolicProlonged : Type 0
+SymbolicProlonged =
+    (symbolic_coefficient one_of_each 0 (0 ∷ [])).list
+    ≡ entry 2 (1 ∷ []) (([], pos 1) ∷ []) ∷ entry 2 (0 ∷ 1 ∷ []) (((2, 1) ∷ [], pos 1) ∷ []) ∷ entry 1 (1 ∷ []) (((2, 1) ∷ [], negsuc 0) ∷ []) ∷ entry 1 (0 ∷ 1 ∷ []) (((2, 2) ∷ [], negsuc 0) ∷ []) ∷ []
+
+-- the determining equation of u_x = u: f2_x + u*f2_u - u*f1_x - u^2*f1_u - f2 = 0
+abbrev pub GrowthDetermined : Type 0
+GrowthDetermined =
+    (determining_equation one_of_each growth (first_order_equation (variable 1)) unit).list
+    ≡ entry 2 (1 ∷ []) (([], pos 1) ∷ []) ∷ entry 2 (0 ∷ 1 ∷ []) (((1, 1) ∷ [], pos 1) ∷ []) ∷ entry 1 (1 ∷ []) (((1, 1) ∷ [], negsuc 0) ∷ []) ∷ entry 1 (0 ∷ 1 ∷ []) (((1, 2) ∷ [], negsuc 0) ∷ [])
+    ∷ entry 2 [] (([], negsuc 0) ∷ []) ∷ []

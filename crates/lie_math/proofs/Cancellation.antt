@@ -1,0 +1,24 @@
+-- A factor that is not 0 can be taken off both sides.
+use Rattle.std.specs.Prelude.{◌≡◌, [], ◌∷◌, ℤ, pos}
+use Rattle.std.proofs.Common.{refl, sym, ap, ◌∙◌}
+use Rattle.lie_math.specs.FiniteSumLaws.{plus_comm}
+use Rattle.lie_math.specs.Polynomial.{WholePolynomial, terms, constant, 0ᴾ, negᴾ, ◌+ᴾ◌, ◌*ᴾ◌}
+use Rattle.lie_math.specs.PolynomialRing.{polynomial_ring}
+use Rattle.lie_math.proofs.Ring.{plus_cancel}
+use Rattle.lie_math.proofs.RingSolver.{v, c0, ◌⊕◌, ◌⊗◌, ⊖, solve, listed}
+use Rattle.lie_math.proofs.Weighing.{torsion}
+use Rattle.lie_math.proofs.ZeroDivisors.{no_zero_divisors}
+
+pub difference_zero : (p q : WholePolynomial) → p +ᴾ negᴾ q ≡ 0ᴾ → p ≡ q
+difference_zero p q h = plus_cancel polynomial_ring p q (negᴾ q) (plus_comm terms (negᴾ q) p ∙ h ∙ sym (polynomial_ring.neg_l q))
+
+difference : (a p q : WholePolynomial) → a *ᴾ p ≡ a *ᴾ q → a *ᴾ (p +ᴾ negᴾ q) ≡ 0ᴾ
+difference a p q e =
+    solve polynomial_ring (listed a (a ∷ p ∷ q ∷ [])) (v 0 ⊗ (v 1 ⊕ ⊖ (v 2))) ((v 0 ⊗ v 1) ⊕ ⊖ (v 0 ⊗ v 2)) refl ∙ ap (λ z. z +ᴾ negᴾ (a *ᴾ q)) e
+    ∙ solve polynomial_ring (listed a (a ∷ q ∷ [])) ((v 0 ⊗ v 1) ⊕ ⊖ (v 0 ⊗ v 1)) c0 refl
+
+pub factor_cancel : (a p q : WholePolynomial) → ¬ (a ≡ 0ᴾ) → a *ᴾ p ≡ a *ᴾ q → p ≡ q
+factor_cancel a p q n e = difference_zero p q (no_zero_divisors a (p +ᴾ negᴾ q) n (difference a p q e))
+
+pub constant_cancel : (n : ℤ) → ¬ (n ≡ pos 0) → (p q : WholePolynomial) → constant n *ᴾ p ≡ constant n *ᴾ q → p ≡ q
+constant_cancel n h p q e = difference_zero p q (torsion n h (p +ᴾ negᴾ q) (difference (constant n) p q e))

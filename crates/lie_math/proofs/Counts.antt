@@ -1,0 +1,223 @@
+-- The laws of counts: one more derivative, zeros at the end, and the order of derivatives.
+use Rattle.std.specs.Fn.{iterate}
+use Rattle.std.specs.Prelude.{◌≡◌, ℕ, zero, suc, ◌+◌, ◌<◌, Bool, true, false, cond, eqb, List, [], ◌∷◌, ◌++◌, length, replicate}
+use Rattle.std.proofs.Common.{refl, sym, ap, ap₂, ◌∙◌, arith, Ordering, Less, Equal, Greater, eqb-true}
+use Rattle.std.proofs.Math.Dec.{eqb-suc-zero}
+use Rattle.std.specs.Cmp.{nat_cmp_is, ranks, tied_itself}
+use Rattle.std.specs.Ordering.{nat_cmp, ordering_then, MatchOrdering}
+use Rattle.std.specs.Cmp.Lexicographic.{slice_cmp, nat_list_cmp_total}
+use Rattle.lie_math.specs.Counts.{order, raise, before_counts, trimmed, partials_from, partials, Derivative, derivative_cmp, raised}
+use Rattle.lie_math.specs.PartialDerivative.{partial}
+use Rattle.lie_math.specs.Polynomial.{WholePolynomial}
+use Rattle.lie_math.proofs.PartialDerivative.{partial_commutes}
+
+pub raise_comm : (i k : ℕ) (J : List ℕ) → raise i (raise k J) ≡ raise k (raise i J)
+raise_comm zero zero [] = refl
+raise_comm zero (suc k) [] = refl
+raise_comm (suc i) zero [] = refl
+raise_comm (suc i) (suc k) [] = ap (λ z. 0 ∷ z) (raise_comm i k [])
+raise_comm zero zero (c ∷ J) = refl
+raise_comm zero (suc k) (c ∷ J) = refl
+raise_comm (suc i) zero (c ∷ J) = refl
+raise_comm (suc i) (suc k) (c ∷ J) = ap (λ z. c ∷ z) (raise_comm i k J)
+
+abbrev pub partial_times : ℕ → ℕ → WholePolynomial → WholePolynomial
+partial_times c i p = iterate (partial i) c p
+
+partial_times_comm : (c i k : ℕ) (p : WholePolynomial) → partial_times c i (partial k p) ≡ partial k (partial_times c i p)
+partial_times_comm zero i k p = refl
+partial_times_comm (suc c) i k p = ap (partial_times c i) (partial_commutes i k p) ∙ partial_times_comm c i k (partial i p)
+
+partials_from_raise : (k i : ℕ) (J : List ℕ) (p : WholePolynomial) → partials_from k (raise i J) p ≡ partial (k + i) (partials_from k J p)
+partials_from_raise k zero [] p = ap (λ n. partial n p) (plain k)
+  where
+    plain : (k : ℕ) → k ≡ k + 0
+    plain k = omega arith
+partials_from_raise k (suc i) [] p = partials_from_raise (suc k) i [] p ∙ ap (λ n. partial n p) (moved k i)
+  where
+    moved : (k i : ℕ) → suc k + i ≡ k + suc i
+    moved k i = omega arith
+partials_from_raise k zero (c ∷ J) p = partial_times_comm c k k (partials_from (suc k) J p) ∙ ap (λ n. partial n (partials_from k (c ∷ J) p)) (plain k)
+  where
+    plain : (k : ℕ) → k ≡ k + 0
+    plain k = omega arith
+partials_from_raise k (suc i) (c ∷ J) p =
+    ap (partial_times c k) (partials_from_raise (suc k) i J p) ∙ partial_times_comm c k (suc k + i) (partials_from (suc k) J p) ∙ ap (λ n. partial n (partials_from k (c ∷ J) p)) (moved k i)
+  where
+    moved : (k i : ℕ) → suc k + i ≡ k + suc i
+    moved k i = omega arith
+
+-- one more derivative is the derivative of the derivative
+pub partials_raise : (i : ℕ) (J : List ℕ) (p : WholePolynomial) → partials (raise i J) p ≡ partial i (partials J p)
+partials_raise i J p = partials_from_raise 0 i J p ∙ ap (λ n. partial n (partials_from 0 J p)) (plain i)
+  where
+    plain : (i : ℕ) → 0 + i ≡ i
+    plain i = omega arith
+
+pub partials_none : (p : WholePolynomial) → partials [] p ≡ p
+partials_none p = refl
+
+-- one more derivative has one more order
+pub order_raise : (i : ℕ) (J : List ℕ) → order (raise i J) ≡ suc (order J)
+order_raise zero [] = refl
+order_raise (suc i) [] = ap (λ n. 0 + n) (order_raise i [])
+order_raise zero (c ∷ J) = omega arith
+order_raise (suc i) (c ∷ J) = ap (λ n. c + n) (order_raise i J) ∙ moved c (order J)
+  where
+    moved : (a b : ℕ) → a + suc b ≡ suc (a + b)
+    moved a b = omega arith
+
+-- ---- zeros at the end
+order_before : (c : ℕ) (J : List ℕ) → order (before_counts c J) ≡ c + order J
+order_before c [] = go (eqb c 0) refl
+  where
+    go : (t : Bool) → eqb c 0 ≡ t → order (cond t [] (c ∷ [])) ≡ c + 0
+    go true e = let z : c ≡ 0 = eqb-true c 0 e in omega arith
+    go false e = refl
+order_before c (d ∷ J) = refl
+
+pub order_trimmed : (J : List ℕ) → order (trimmed J) ≡ order J
+order_trimmed [] = refl
+order_trimmed (c ∷ J) = order_before c (trimmed J) ∙ ap (λ n. c + n) (order_trimmed J)
+
+partials_before : (i c : ℕ) (J : List ℕ) (p : WholePolynomial) → partials_from i (before_counts c J) p ≡ partial_times c i (partials_from (suc i) J p)
+partials_before i c [] p = go (eqb c 0) refl
+  where
+    go : (t : Bool) → eqb c 0 ≡ t → partials_from i (cond t [] (c ∷ [])) p ≡ partial_times c i p
+    go true e = ap (λ n. partial_times n i p) (sym (eqb-true c 0 e))
+    go false e = refl
+partials_before i c (d ∷ J) p = refl
+
+partials_trimmed_from : (i : ℕ) (J : List ℕ) (p : WholePolynomial) → partials_from i (trimmed J) p ≡ partials_from i J p
+partials_trimmed_from i [] p = refl
+partials_trimmed_from i (c ∷ J) p = partials_before i c (trimmed J) p ∙ ap (partial_times c i) (partials_trimmed_from (suc i) J p)
+
+-- counts past the end are 0
+pub partials_trimmed : (J : List ℕ) (p : WholePolynomial) → partials (trimmed J) p ≡ partials J p
+partials_trimmed J p = partials_trimmed_from 0 J p
+
+before_raise : (i c : ℕ) (J : List ℕ) → before_counts c (raise i J) ≡ raise (suc i) (before_counts c J)
+before_raise zero c [] = go (eqb c 0) refl
+  where
+    go : (t : Bool) → eqb c 0 ≡ t → c ∷ 1 ∷ [] ≡ raise 1 (cond t [] (c ∷ []))
+    go true e = ap (λ n. n ∷ 1 ∷ []) (eqb-true c 0 e)
+    go false e = refl
+before_raise (suc i) c [] = go (eqb c 0) refl
+  where
+    go : (t : Bool) → eqb c 0 ≡ t → c ∷ 0 ∷ raise i [] ≡ raise (suc (suc i)) (cond t [] (c ∷ []))
+    go true e = ap (λ n. n ∷ 0 ∷ raise i []) (eqb-true c 0 e)
+    go false e = refl
+before_raise zero c (d ∷ J) = refl
+before_raise (suc i) c (d ∷ J) = refl
+
+before_suc : (c : ℕ) (J : List ℕ) → before_counts (suc c) J ≡ suc c ∷ J
+before_suc c [] = ap (λ t. cond t [] (suc c ∷ [])) (eqb-suc-zero c)
+before_suc c (d ∷ J) = refl
+
+raise_before : (c : ℕ) (J : List ℕ) → raise zero (before_counts c J) ≡ suc c ∷ J
+raise_before c [] = go (eqb c 0) refl
+  where
+    go : (t : Bool) → eqb c 0 ≡ t → raise zero (cond t [] (c ∷ [])) ≡ suc c ∷ []
+    go true e = ap (λ n. suc n ∷ []) (sym (eqb-true c 0 e))
+    go false e = refl
+raise_before c (d ∷ J) = refl
+
+zeros_raise : (i : ℕ) → trimmed (raise i []) ≡ raise i []
+zeros_raise zero = refl
+zeros_raise (suc i) = ap (before_counts 0) (zeros_raise i) ∙ before_raise i 0 []
+
+pub trimmed_raise : (i : ℕ) (J : List ℕ) → trimmed (raise i J) ≡ raise i (trimmed J)
+trimmed_raise i [] = zeros_raise i
+trimmed_raise zero (c ∷ J) = before_suc c (trimmed J) ∙ sym (raise_before c (trimmed J))
+trimmed_raise (suc i) (c ∷ J) = ap (before_counts c) (trimmed_raise i J) ∙ before_raise i c (trimmed J)
+
+-- ---- the order of derivatives
+zero_less : (d : ℕ) → nat_cmp 0 (suc d) ≡ Less
+zero_less d = sym (nat_cmp_is 0 (suc d) Less (omega arith))
+
+zero_greater : (c : ℕ) → nat_cmp (suc c) 0 ≡ Greater
+zero_greater c = sym (nat_cmp_is (suc c) 0 Greater (omega arith))
+
+cmp_before : (c d : ℕ) (J K : List ℕ) → slice_cmp nat_cmp (before_counts c J) (before_counts d K) ≡ ordering_then (nat_cmp c d) (slice_cmp nat_cmp J K)
+cmp_before zero zero [] [] = refl
+cmp_before zero zero [] (k ∷ K) = refl
+cmp_before zero zero (j ∷ J) [] = refl
+cmp_before zero zero (j ∷ J) (k ∷ K) = refl
+cmp_before zero (suc d) [] K = ap (slice_cmp nat_cmp []) (before_suc d K) ∙ sym (ap (λ r. ordering_then r (slice_cmp nat_cmp [] K)) (zero_less d))
+cmp_before zero (suc d) (j ∷ J) K = ap (slice_cmp nat_cmp (0 ∷ j ∷ J)) (before_suc d K)
+cmp_before (suc c) zero J [] = ap (λ L. slice_cmp nat_cmp L []) (before_suc c J) ∙ sym (ap (λ r. ordering_then r (slice_cmp nat_cmp J [])) (zero_greater c))
+cmp_before (suc c) zero J (k ∷ K) = ap (λ L. slice_cmp nat_cmp L (0 ∷ k ∷ K)) (before_suc c J)
+cmp_before (suc c) (suc d) J K = ap₂ (slice_cmp nat_cmp) (before_suc c J) (before_suc d K)
+
+-- lists of one length compare as they do without the zeros at the end
+pub trimmed_cmp : (J K : List ℕ) → length J ≡ length K → slice_cmp nat_cmp (trimmed J) (trimmed K) ≡ slice_cmp nat_cmp J K
+trimmed_cmp [] [] e = refl
+trimmed_cmp [] (k ∷ K) e = absurd (omega arith)
+trimmed_cmp (j ∷ J) [] e = absurd (omega arith)
+trimmed_cmp (j ∷ J) (k ∷ K) e = cmp_before j k (trimmed J) (trimmed K) ∙ ap (ordering_then (nat_cmp j k)) (trimmed_cmp J K (omega arith))
+
+nat_cmp_suc : (c d : ℕ) → nat_cmp (suc c) (suc d) ≡ nat_cmp c d
+nat_cmp_suc c d = sym (nat_cmp_is (suc c) (suc d) (nat_cmp c d) (next (nat_cmp c d) (ranks c d)))
+  where
+    next : (r : Ordering) → MatchOrdering r (c < d) (c ≡ d) (d < c) → MatchOrdering r (suc c < suc d) (suc c ≡ suc d) (suc d < suc c)
+    next Less h = omega arith
+    next Equal h = ap suc h
+    next Greater h = omega arith
+
+length_raise : (i : ℕ) (J K : List ℕ) → length J ≡ length K → length (raise i J) ≡ length (raise i K)
+length_raise zero [] [] e = refl
+length_raise (suc i) [] [] e = refl
+length_raise i [] (k ∷ K) e = absurd (omega arith)
+length_raise i (j ∷ J) [] e = absurd (omega arith)
+length_raise zero (j ∷ J) (k ∷ K) e = e
+length_raise (suc i) (j ∷ J) (k ∷ K) e = ap suc (length_raise i J K (omega arith))
+
+raise_cmp : (i : ℕ) (J K : List ℕ) → length J ≡ length K → slice_cmp nat_cmp (raise i J) (raise i K) ≡ slice_cmp nat_cmp J K
+raise_cmp i [] [] e = tied_itself nat_list_cmp_total (raise i [])
+raise_cmp i [] (k ∷ K) e = absurd (omega arith)
+raise_cmp i (j ∷ J) [] e = absurd (omega arith)
+raise_cmp zero (j ∷ J) (k ∷ K) e = ap (λ r. ordering_then r (slice_cmp nat_cmp J K)) (nat_cmp_suc j k)
+raise_cmp (suc i) (j ∷ J) (k ∷ K) e = ap (ordering_then (nat_cmp j k)) (raise_cmp i J K (omega arith))
+
+padded : List ℕ → ℕ → List ℕ
+padded J n = J ++ replicate n 0
+
+trimmed_padded : (J : List ℕ) (n : ℕ) → trimmed (padded J n) ≡ trimmed J
+unfolding padded
+trimmed_padded [] zero = refl
+trimmed_padded [] (suc n) = ap (before_counts 0) (trimmed_padded [] n)
+trimmed_padded (c ∷ J) n = ap (before_counts c) (trimmed_padded J n)
+
+length_padded : (J : List ℕ) (n : ℕ) → length (padded J n) ≡ length J + n
+unfolding padded
+length_padded [] zero = refl
+length_padded [] (suc n) = ap suc (length_padded [] n) ∙ moved n
+  where
+    moved : (n : ℕ) → suc (0 + n) ≡ 0 + suc n
+    moved n = omega arith
+length_padded (c ∷ J) n = ap suc (length_padded J n) ∙ moved (length J) n
+  where
+    moved : (l n : ℕ) → suc (l + n) ≡ suc l + n
+    moved l n = omega arith
+
+-- one more derivative keeps the order of counts without zeros at the end
+pub raise_cmp_trimmed : (i : ℕ) (J K : List ℕ) → trimmed J ≡ J → trimmed K ≡ K → slice_cmp nat_cmp (raise i J) (raise i K) ≡ slice_cmp nat_cmp J K
+raise_cmp_trimmed i J K j k =
+    sym (ap₂ (slice_cmp nat_cmp) (at J (length K) j) (at K (length J) k)) ∙ trimmed_cmp (raise i (padded J (length K))) (raise i (padded K (length J))) (length_raise i _ _ same)
+    ∙ raise_cmp i (padded J (length K)) (padded K (length J)) same ∙ sym (trimmed_cmp (padded J (length K)) (padded K (length J)) same)
+    ∙ ap₂ (slice_cmp nat_cmp) (trimmed_padded J (length K) ∙ j) (trimmed_padded K (length J) ∙ k)
+  where
+    at : (J : List ℕ) (n : ℕ) → trimmed J ≡ J → trimmed (raise i (padded J n)) ≡ raise i J
+    at J n j = trimmed_raise i (padded J n) ∙ ap (raise i) (trimmed_padded J n ∙ j)
+
+    swapped : (a b : ℕ) → a + b ≡ b + a
+    swapped a b = omega arith
+
+    same : length (padded J (length K)) ≡ length (padded K (length J))
+    same = length_padded J (length K) ∙ swapped (length J) (length K) ∙ sym (length_padded K (length J))
+
+-- and so the order of derivatives
+pub raised_cmp : (i : ℕ) (x y : Derivative) → trimmed x.counts ≡ x.counts → trimmed y.counts ≡ y.counts → derivative_cmp (raised i x) (raised i y) ≡ derivative_cmp x y
+raised_cmp i x y h k =
+    ap₂ ordering_then (ap₂ nat_cmp (order_raise i y.counts) (order_raise i x.counts) ∙ nat_cmp_suc (order y.counts) (order x.counts))
+    (ap (ordering_then (nat_cmp y.unknown x.unknown)) (raise_cmp_trimmed i y.counts x.counts k h))

@@ -1,0 +1,250 @@
+-- What stands within the limits, and what is past them: whatever another polynomial covers is within where that is, and past where this is.
+use Rattle.std.specs.Prelude.{◌≡◌, ℕ, suc, ◌+◌, ◌<◌, ◌≤◌, ◌^◌, Bool, true, false, cond, not, T, List, [], ◌∷◌, ◌++◌, length, ℤ, pos, negsuc, ◌+ℤ◌, unsigned_abs}
+use Rattle.std.proofs.Common.{refl, sym, ap, subst, ◌∙◌, arith, lit<, Ordering, Less, Equal, Greater, is_lt, is_eq, eqb, eqb→eq}
+use Rattle.std.specs.Ordering.{eq_by_cmp, ordering_reverse}
+use Rattle.std.specs.Cmp.{tied_itself}
+use borrow.Author.Differences.{ints}
+use Rattle.lie_math.specs.SortedSum.{value_at, below_all}
+use Rattle.lie_math.specs.Canonical.{value_at-head, value_at-tail, value_at-below, below_less, both, first, second}
+use Rattle.lie_math.specs.FiniteSum.{Shape}
+use Rattle.lie_math.specs.FiniteSumLaws.{value-of, value-plus, value-none, plus_idl}
+use Rattle.lie_math.specs.FiniteSum as finite
+use Rattle.lie_math.specs.FiniteSumLaws as finite_laws
+use Rattle.lie_math.proofs.FiniteSum as finite_proofs
+use Rattle.lie_math.proofs.Integer.{unsigned_abs_zero}
+use Rattle.lie_math.specs.Monomial.{Monomial, monomial_cmp, exponent}
+use Rattle.lie_math.specs.MonomialOrder.{monomial_cmp_total, monomial_cmp-IsAntisymmetric}
+use Rattle.lie_math.specs.Polynomial.{WholePolynomial, coefficient, terms, term, polynomial_of, 0ᴾ, ◌+ᴾ◌}
+use Rattle.lie_math.specs.Integer.{coefficients, is_zero_int}
+use Rattle.lie_math.specs.Limits.{HasLowExponents, IsWithinLimits, HasWideCoefficient, HasHighExponent, HasManyTerms, absolutes, absolute, IsBulkOf, AreWithin}
+use Rattle.lie_math.proofs.Merge.{IsCanonical, canonical_value, canonical_below, canonical_tail, canonical_cons}
+
+-- the coefficient of a list of terms
+abbrev pub at : Monomial → List (Monomial × ℤ) → ℤ
+at m es = value_at monomial_cmp coefficients m es
+
+-- ---- a canonical list with no fewer keys is no shorter
+
+module _ {K A : Type 0} (S : Shape K A) where
+  abbrev valued : K → List (K × A) → A
+  valued k es = value_at S.order S.values k es
+
+  -- each key of the first list is a key of the second
+  abbrev pub KeysWithin : List (K × A) → List (K × A) → Type 0
+  KeysWithin xs ys = (k : K) → valued k ys ≡ S.values.adder.nil → valued k xs ≡ S.values.adder.nil
+
+  not_nil : (a : A) → T (not (S.values.is_nil a)) → a ≡ S.values.adder.nil → ⊥
+  not_nil a h e = subst (λ b. T (not b)) (ap S.values.is_nil e ∙ S.values.is_nil_nil) h
+
+  head_at : (x : K × A) (xs : List (K × A)) → IsCanonical S (x ∷ xs) → valued x.0 (x ∷ xs) ≡ x.1
+  head_at x xs h = value_at-head S.order S.values S.total S.same x xs (canonical_below S x xs h)
+
+  tail_at : (x : K × A) (xs : List (K × A)) (k : K) → IsCanonical S (x ∷ xs) → valued k xs ≡ cond (eq_by_cmp S.order k x.0) S.values.adder.nil (valued k (x ∷ xs))
+  tail_at x xs k h = value_at-tail S.order S.values S.total S.same k x xs (canonical_below S x xs h)
+
+  is_below : (k : K) (y : K × A) (ys : List (K × A)) → S.order k y.0 ≡ Less → IsCanonical S (y ∷ ys) → valued k (y ∷ ys) ≡ S.values.adder.nil
+  is_below k y ys p h =
+      value_at-below S.order S.values S.total S.same k (y ∷ ys) (both _ (below_all S.order S.values k ys) (subst (λ r. T (is_lt r)) (sym p) tt) (below_less S.order S.values S.total S.same k y.0 ys p (canonical_below S y ys h)))
+
+  missing : (x : K × A) (xs ys : List (K × A)) → IsCanonical S (x ∷ xs) → KeysWithin (x ∷ xs) ys → valued x.0 ys ≡ S.values.adder.nil → ⊥
+  missing x xs ys h w e = not_nil x.1 (canonical_value S x xs h) (sym (head_at x xs h) ∙ w x.0 e)
+
+  tested : {P : Type 0} (t : Bool) → (t ≡ true → P) → (t ≡ false → P) → P
+  tested true f g = f refl
+  tested false f g = g refl
+
+  -- past equal first keys
+  within_tails : (x y : K × A) (xs ys : List (K × A)) → IsCanonical S (x ∷ xs) → IsCanonical S (y ∷ ys) → x.0 ≡ y.0 → KeysWithin (x ∷ xs) (y ∷ ys) → KeysWithin xs ys
+  within_tails x y xs ys h k s w q e =
+      tested (eq_by_cmp S.order q x.0)
+      (λ t. tail_at x xs q h ∙ ap (λ b. cond b S.values.adder.nil (valued q (x ∷ xs))) t)
+      (λ t. tail_at x xs q h ∙ ap (λ b. cond b S.values.adder.nil (valued q (x ∷ xs))) t ∙ w q (sym (tail_at y ys q k ∙ ap (λ b. cond b S.values.adder.nil (valued q (y ∷ ys))) (ap (eq_by_cmp S.order q) (sym s) ∙ t)) ∙ e))
+
+  -- past a first key that the first list does not have
+  within_rest : (x y : K × A) (xs ys : List (K × A)) → IsCanonical S (x ∷ xs) → IsCanonical S (y ∷ ys) → S.order y.0 x.0 ≡ Less → KeysWithin (x ∷ xs) (y ∷ ys) → KeysWithin (x ∷ xs) ys
+  within_rest x y xs ys h k p w q e =
+      tested (eq_by_cmp S.order q y.0)
+      (λ t. ap (λ j. valued j (x ∷ xs)) (finite_proofs.key S q y.0 t) ∙ is_below y.0 x xs p h)
+      (λ t. w q (sym (tail_at y ys q k ∙ ap (λ b. cond b S.values.adder.nil (valued q (y ∷ ys))) t) ∙ e))
+
+  pub shorter : (xs ys : List (K × A)) → IsCanonical S xs → IsCanonical S ys → KeysWithin xs ys → length xs ≤ length ys
+  shorter [] ys h k w = omega arith
+  shorter (x ∷ xs) ys h k w = go (λ zs. shorter xs zs (canonical_tail S x xs h)) ys k w
+    where
+      go : ((zs : List (K × A)) → IsCanonical S zs → KeysWithin xs zs → length xs ≤ length zs) → (ys : List (K × A)) → IsCanonical S ys → KeysWithin (x ∷ xs) ys → length (x ∷ xs) ≤ length ys
+      go rest [] k w = absurd (missing x xs [] h w refl)
+      go rest (y ∷ ys) k w =
+          let skipped : (S.order y.0 x.0 ≡ Less → length (x ∷ xs) ≤ length ys) = λ p. go rest ys (canonical_tail S y ys k) (within_rest x y xs ys h k p w) in
+          by_order (S.order x.0 y.0) refl skipped
+        where
+          by_order : (r : Ordering) → S.order x.0 y.0 ≡ r → (S.order y.0 x.0 ≡ Less → length (x ∷ xs) ≤ length ys) → length (x ∷ xs) ≤ length (y ∷ ys)
+          by_order Less e skipped = absurd (missing x xs (y ∷ ys) h w (is_below x.0 y ys e k))
+          by_order Equal e skipped = let l : length xs ≤ length ys = rest ys (canonical_tail S y ys k) (within_tails x y xs ys h k (S.same x.0 y.0 e) w) in omega arith
+          by_order Greater e skipped = let l : length (x ∷ xs) ≤ length ys = skipped (S.total.antisymm y.0 x.0 ∙ ap ordering_reverse e) in omega arith
+
+-- ---- covering
+
+-- no coefficient of the first polynomial is greater in absolute value
+pub record IsCovered (p b : WholePolynomial) : Type 0 where
+  pub at_most : (m : Monomial) → unsigned_abs (coefficient p m) ≤ unsigned_abs (coefficient b m)
+
+-- no coefficient is negative
+pub record IsNonNegative (p : WholePolynomial) : Type 0 where
+  pub plain : (m : Monomial) → coefficient p m ≡ pos (unsigned_abs (coefficient p m))
+
+pub zero_covered : (a b : ℤ) → unsigned_abs a ≤ unsigned_abs b → b ≡ pos 0 → a ≡ pos 0
+zero_covered a b h e = unsigned_abs_zero a (let z : unsigned_abs b ≡ 0 = ap unsigned_abs e in omega arith)
+
+pub length_covered : (p b : WholePolynomial) → IsCovered p b → length p.list ≤ length b.list
+length_covered p b c = shorter terms p.list b.list p.canonical b.canonical (λ m e. zero_covered (coefficient p m) (coefficient b m) (c.at_most m) e)
+
+pub within_covered : (p b : WholePolynomial) → IsCovered p b → IsWithinLimits b → IsWithinLimits p
+within_covered p b c w = record {
+  coefficients = λ m. let h : unsigned_abs (coefficient p m) ≤ unsigned_abs (coefficient b m) = c.at_most m in let k : unsigned_abs (coefficient b m) < 2 ^ 127 = w.coefficients m in omega arith;
+  exponents = λ m o. w.exponents m (λ e. o (zero_covered (coefficient p m) (coefficient b m) (c.at_most m) e));
+  terms = let h : length p.list ≤ length b.list = length_covered p b c in let k : length b.list ≤ 1000000 = w.terms in omega arith;
+}
+
+pub wide_covered : (p b : WholePolynomial) → IsCovered p b → HasWideCoefficient p → HasWideCoefficient b
+wide_covered p b c h = (h.0, let g : unsigned_abs (coefficient p h.0) ≤ unsigned_abs (coefficient b h.0) = c.at_most h.0 in let k : 2 ^ 127 ≤ unsigned_abs (coefficient p h.0) = h.1 in omega arith)
+
+pub high_covered : (p b : WholePolynomial) → IsCovered p b → HasHighExponent p → HasHighExponent b
+high_covered p b c h = (h.0, (λ e. h.1 (zero_covered (coefficient p h.0) (coefficient b h.0) (c.at_most h.0) e)), h.2)
+
+pub many_covered : (p b : WholePolynomial) → IsCovered p b → HasManyTerms p → HasManyTerms b
+many_covered p b c h = let g : length p.list ≤ length b.list = length_covered p b c in omega arith
+
+pub covered_trans : (p q r : WholePolynomial) → IsCovered p q → IsCovered q r → IsCovered p r
+covered_trans p q r c d = record { at_most = λ m. let h : unsigned_abs (coefficient p m) ≤ unsigned_abs (coefficient q m) = c.at_most m in let k : unsigned_abs (coefficient q m) ≤ unsigned_abs (coefficient r m) = d.at_most m in omega arith }
+
+-- ---- sums of polynomials without negative coefficients
+
+sum_size : (x y z : ℤ) → z ≡ x +ℤ y → x ≡ pos (unsigned_abs x) → y ≡ pos (unsigned_abs y) → unsigned_abs z ≡ unsigned_abs x + unsigned_abs y
+sum_size x y z e h k = omega (arith, ints)
+
+pub nonneg_sum : (p q : WholePolynomial) → IsNonNegative p → IsNonNegative q → IsNonNegative (p +ᴾ q)
+nonneg_sum p q h k = record { plain = λ m. both_plain (coefficient p m) (coefficient q m) (coefficient (p +ᴾ q) m) (value-plus terms p q m) (h.plain m) (k.plain m) }
+  where
+    both_plain : (x y z : ℤ) → z ≡ x +ℤ y → x ≡ pos (unsigned_abs x) → y ≡ pos (unsigned_abs y) → z ≡ pos (unsigned_abs z)
+    both_plain x y z e h k = omega (arith, ints)
+
+pub covered_first : (p q : WholePolynomial) → IsNonNegative p → IsNonNegative q → IsCovered p (p +ᴾ q)
+covered_first p q h k = record { at_most = λ m. let e = sum_size (coefficient p m) (coefficient q m) (coefficient (p +ᴾ q) m) (value-plus terms p q m) (h.plain m) (k.plain m) in omega arith }
+
+pub covered_second : (p q : WholePolynomial) → IsNonNegative p → IsNonNegative q → IsCovered q (p +ᴾ q)
+covered_second p q h k = record { at_most = λ m. let e = sum_size (coefficient p m) (coefficient q m) (coefficient (p +ᴾ q) m) (value-plus terms p q m) (h.plain m) (k.plain m) in omega arith }
+
+pub nonneg_none : IsNonNegative 0ᴾ
+nonneg_none = record { plain = λ m. value-none terms m ∙ sym (ap (λ z. pos (unsigned_abs z)) (value-none terms m)) }
+
+-- ---- lists and their bulk
+
+-- the value at a monomial is covered, and not negative
+pub record Bounds (a b : ℤ) : Type 0 where
+  pub covered : unsigned_abs a ≤ unsigned_abs b
+  pub plain : b ≡ pos (unsigned_abs b)
+
+one_more : (t : Bool) (x y a b : ℤ) → Bounds x y → Bounds a b → Bounds (cond t x (pos 0) +ℤ a) (cond t y (pos 0) +ℤ b)
+one_more true x y a b h k = record {
+  covered = let p = h.covered in let q = h.plain in let r = k.covered in let s = k.plain in omega (arith, ints);
+  plain = let q = h.plain in let s = k.plain in omega (arith, ints);
+}
+one_more false x y a b h k = record {
+  covered = let r = k.covered in let s = k.plain in omega (arith, ints);
+  plain = let s = k.plain in omega (arith, ints);
+}
+
+pub bulk_at : (xs ys : List (Monomial × ℤ)) (m : Monomial) → IsBulkOf xs ys → Bounds (at m xs) (at m ys)
+bulk_at [] [] m h = record { covered = omega arith; plain = refl }
+bulk_at [] (y ∷ ys) m h = absurd h
+bulk_at (x ∷ xs) [] m h = absurd h
+bulk_at (x ∷ xs) (y ∷ ys) m h =
+    subst (λ k. Bounds (cond (eq_by_cmp monomial_cmp m k) x.1 (pos 0) +ℤ at m xs) (at m (y ∷ ys))) (sym h.0)
+    (one_more (eq_by_cmp monomial_cmp m y.0) x.1 y.1 (at m xs) (at m ys) (record { covered = h.1; plain = h.2 }) (bulk_at xs ys m h.3))
+
+pub bulk_covers : (xs ys : List (Monomial × ℤ)) → IsBulkOf xs ys → IsCovered (polynomial_of xs) (polynomial_of ys)
+bulk_covers xs ys h = record { at_most = λ m. subst (λ z. unsigned_abs (coefficient (polynomial_of xs) m) ≤ unsigned_abs z) (sym (value-of terms ys m)) (subst (λ z. unsigned_abs z ≤ unsigned_abs (at m ys)) (sym (value-of terms xs m)) (bulk_at xs ys m h).covered) }
+
+pub bulk_nonneg : (xs ys : List (Monomial × ℤ)) → IsBulkOf xs ys → IsNonNegative (polynomial_of ys)
+bulk_nonneg xs ys h = record { plain = λ m. subst (λ z. z ≡ pos (unsigned_abs z)) (sym (value-of terms ys m)) (bulk_at xs ys m h).plain }
+
+pub bulk_absolutes : (es : List (Monomial × ℤ)) → IsBulkOf es (absolutes es)
+bulk_absolutes [] = tt
+bulk_absolutes (e ∷ es) = (refl, (let h : unsigned_abs e.1 ≤ unsigned_abs e.1 = omega arith in h), refl, bulk_absolutes es)
+
+pub nonneg_absolutes : (es : List (Monomial × ℤ)) → IsNonNegative (polynomial_of (absolutes es))
+nonneg_absolutes es = bulk_nonneg es (absolutes es) (bulk_absolutes es)
+
+pub absolutes-append : (xs ys : List (Monomial × ℤ)) → absolutes (xs ++ ys) ≡ absolutes xs ++ absolutes ys
+absolutes-append [] ys = refl
+absolutes-append (x ∷ xs) ys = ap (λ es. (x.0, pos (unsigned_abs x.1)) ∷ es) (absolutes-append xs ys)
+
+-- the absolute values of a list in order
+below_absolutes : (m : Monomial) (es : List (Monomial × ℤ)) → T (below_all monomial_cmp coefficients m es) → T (below_all monomial_cmp coefficients m (absolutes es))
+below_absolutes m [] h = tt
+below_absolutes m (e ∷ es) h = both _ (below_all monomial_cmp coefficients m (absolutes es)) (first _ (below_all monomial_cmp coefficients m es) h) (below_absolutes m es (second (is_lt (monomial_cmp m e.0)) _ h))
+
+pub by_test : (b : Bool) → (b ≡ true → ⊥) → T (not b)
+by_test true f = absurd (f refl)
+by_test false f = tt
+
+not_zero_abs : (z : ℤ) → T (not (is_zero_int z)) → T (not (is_zero_int (pos (unsigned_abs z))))
+not_zero_abs (pos n) h = h
+not_zero_abs (negsuc n) h = by_test (eqb (suc n) 0) (λ e. let k : suc n ≡ 0 = eqb→eq (suc n) 0 (subst T (sym e) tt) in omega arith)
+
+pub canonical_absolutes : (es : List (Monomial × ℤ)) → IsCanonical terms es → IsCanonical terms (absolutes es)
+canonical_absolutes [] h = tt
+canonical_absolutes (e ∷ es) h =
+    canonical_cons terms (e.0, pos (unsigned_abs e.1)) (absolutes es) (not_zero_abs e.1 (canonical_value terms e es h)) (below_absolutes e.0 es (canonical_below terms e es h)) (canonical_absolutes es (canonical_tail terms e es h))
+
+pub length-absolutes : (es : List (Monomial × ℤ)) → length (absolutes es) ≡ length es
+length-absolutes [] = refl
+length-absolutes (e ∷ es) = ap suc (length-absolutes es)
+
+-- of a list in order, the polynomial with the absolute values is that of the absolute values
+pub absolute_of : (es : List (Monomial × ℤ)) → IsCanonical terms es → absolute (polynomial_of es) ≡ polynomial_of (absolutes es)
+unfolding absolute
+absolute_of es h = ap (λ xs. polynomial_of (absolutes xs)) (finite_laws.list-of terms es h)
+
+-- ---- limits of a list
+
+at_tail : (m : Monomial) (e : Monomial × ℤ) (es : List (Monomial × ℤ)) → IsCanonical terms (e ∷ es) → at m es ≡ cond (eq_by_cmp monomial_cmp m e.0) (pos 0) (at m (e ∷ es))
+at_tail m e es h = value_at-tail monomial_cmp coefficients monomial_cmp_total monomial_cmp-IsAntisymmetric m e es (canonical_below terms e es h)
+
+fits_at : (es : List (Monomial × ℤ)) (m : Monomial) → IsCanonical terms es → AreWithin es → unsigned_abs (at m es) < 2 ^ 127
+fits_at [] m h w = lit< tt
+fits_at (e ∷ es) m h w = by_key (eq_by_cmp monomial_cmp m e.0) (at_tail m e es h) (fits_at es m (canonical_tail terms e es h) w.2)
+  where
+    by_key : (t : Bool) → at m es ≡ cond t (pos 0) (cond t e.1 (pos 0) +ℤ at m es) → unsigned_abs (at m es) < 2 ^ 127 → unsigned_abs (cond t e.1 (pos 0) +ℤ at m es) < 2 ^ 127
+    by_key true f r = subst (λ z. unsigned_abs z < 2 ^ 127) (sym (ap (λ z. e.1 +ℤ z) f ∙ lib.IntN.+ℤ_idr e.1)) w.0
+    by_key false f r = subst (λ z. unsigned_abs z < 2 ^ 127) (sym (lib.IntN.+ℤ_idl (at m es))) r
+
+low_at : (es : List (Monomial × ℤ)) (m : Monomial) → AreWithin es → ¬ (at m es ≡ pos 0) → HasLowExponents m
+low_at [] m w n = absurd (n refl)
+low_at (e ∷ es) m w n = by_key (λ f. low_at es m w.2 f) (eq_by_cmp monomial_cmp m e.0) refl
+  where
+    by_key : (¬ (at m es ≡ pos 0) → HasLowExponents m) → (t : Bool) → eq_by_cmp monomial_cmp m e.0 ≡ t → HasLowExponents m
+    by_key rest true f = subst HasLowExponents (sym (finite_proofs.key terms m e.0 f)) w.1
+    by_key rest false f = rest (λ z. n (ap (λ t. cond t e.1 (pos 0) +ℤ at m es) f ∙ lib.IntN.+ℤ_idl (at m es) ∙ z))
+
+pub limits_of : (es : List (Monomial × ℤ)) → IsCanonical terms es → AreWithin es → length es ≤ 1000000 → IsWithinLimits (polynomial_of es)
+limits_of es h w n = record {
+  coefficients = λ m. subst (λ z. unsigned_abs z < 2 ^ 127) (sym (value-of terms es m)) (fits_at es m h w);
+  exponents = λ m o. low_at es m w (λ z. o (value-of terms es m ∙ z));
+  terms = subst (λ xs. length xs ≤ 1000000) (sym (finite_laws.list-of terms es h)) n;
+}
+
+-- ---- one term
+
+pub coefficient-term : (m : Monomial) (a : ℤ) → coefficient (term m a) m ≡ a
+coefficient-term m a = finite_laws.value-term terms m a m ∙ ap (λ t. cond (is_eq t) a (pos 0)) (tied_itself monomial_cmp_total m)
+
+pub wide_term : (m : Monomial) (a : ℤ) → 2 ^ 127 ≤ unsigned_abs a → HasWideCoefficient (term m a)
+wide_term m a h = (m, subst (λ z. 2 ^ 127 ≤ unsigned_abs z) (sym (coefficient-term m a)) h)
+
+pub high_term : (m : Monomial) (a : ℤ) → ¬ (a ≡ pos 0) → ((v : ℕ) × (65535 < exponent m v)) → HasHighExponent (term m a)
+high_term m a n h = (m, (λ z. n (sym (coefficient-term m a) ∙ z)), h)
+
+pub term_is : (m : Monomial) (a : ℤ) → term m a ≡ polynomial_of ((m, a) ∷ [])
+unfolding finite.term
+term_is m a = refl
