@@ -1,0 +1,10 @@
+pub mod TermLists
+pub mod TallyLists
+pub mod MergeSteps
+pub mod MergeTurns
+pub mod SumSteps
+pub mod TimesSteps
+pub mod DerivativeSteps
+pub mod Results
+pub mod Repeats
+pub mod Bulks

@@ -1,0 +1,190 @@
+// A polynomial as the list of its terms.
+ghost use Rattle.std.specs.Prelude.{◌≡◌, ◌++◌, ◌∷◌, [], length, reverse, pos, unsigned_abs, IfOk, IfErr, OnOk};
+ghost use Rattle.lie_math.specs.Polynomial.{polynomial_of, constant, ◌+ᴾ◌, ◌*ᴾ◌};
+ghost use Rattle.lie_math.specs.Limits.{absolutes};
+ghost use Rattle.lie_ring.specs.Causes.{IsCause};
+ghost use Rattle.lie_ring.specs.Entries.{entries};
+ghost use Rattle.lie_poly.specs.Sorted.{IsSorted};
+ghost use Rattle.lie_poly.specs.Tallies.{sum_of, IsTallied, Tells};
+ghost use Rattle.lie_poly.specs.Failures.{IsStarved};
+
+use crate::derivative::derive_terms;
+use crate::merge::merge;
+use crate::product::{multiply, times_term};
+use crate::sum::tally_terms;
+use crate::tally::{Tally, settle};
+use lie_ring::{Mono, NoMemory, PolyFail, Polynomial, Ring};
+use std::alloc::Global;
+use std::marker::Model;
+
+/// A polynomial: its terms in print order, with distinct monomials and no zero.
+#[derive(Drop)]
+pub struct Flat<C: Ring> {
+    terms: Vec<(Mono, C)>,
+}
+
+impl<C: Ring> Model for Flat<C> {
+    ghost use Rattle.lie_math.specs.Polynomial.{WholePolynomial, polynomial_of};
+    ghost use Rattle.lie_math.specs.PolynomialRing.{polynomial_code};
+
+    ghost Value = { WholePolynomial };
+
+    ghost coded = { polynomial_code };
+
+    ghost use Rattle.lie_ring.specs.Entries.{entries};
+    ghost use Rattle.lie_poly.specs.Sorted.{IsSorted};
+
+    ghost view = { λ a. polynomial_of (entries C.value a.terms.items) };
+
+    ghost invariant = { λ a. IsSorted (entries C.value a.terms.items) };
+}
+
+impl<C: Ring> Flat<C> {
+    /// The number of terms.
+    pub fn len(&self) -> usize
+        ensures { result ≡ length self.now.list }
+    {
+        self.terms.len()
+    }
+}
+
+impl<C: Ring> Polynomial<C> for Flat<C> {
+    ghost poly = { λ p. p };
+
+    fn zero(alloc: Global) -> Flat<C> {
+        Flat {
+            terms: Vec::new(alloc),
+        }
+    }
+
+    fn of_terms(alloc: Global, terms: &[(Mono, C)]) -> Result<Flat<C>, PolyFail> {
+        match tally_terms(alloc, terms) {
+            Ok(tallies) => settled(alloc, tallies),
+            Err(fail) => Err(fail),
+        }
+    }
+
+    fn add(&self, alloc: Global, other: &Flat<C>) -> Result<Flat<C>, PolyFail> {
+        match add_terms(alloc, self.terms.as_slice(), other.terms.as_slice()) {
+            Ok(tallies) => settled(alloc, tallies),
+            Err(fail) => Err(fail),
+        }
+    }
+
+    fn mul(&self, alloc: Global, other: &Flat<C>) -> Result<Flat<C>, PolyFail> {
+        match multiply(alloc, self.terms.as_slice(), other.terms.as_slice()) {
+            Ok(tallies) => settled(alloc, tallies),
+            Err(fail) => Err(fail),
+        }
+    }
+
+    fn scale(&self, alloc: Global, c: &C) -> Result<Flat<C>, PolyFail> {
+        match times_number(alloc, c, self.terms.as_slice()) {
+            Ok(tallies) => settled(alloc, tallies),
+            Err(fail) => Err(fail),
+        }
+    }
+
+    fn derive(&self, alloc: Global, var: u32) -> Result<Flat<C>, PolyFail> {
+        match derive_terms(alloc, self.terms.as_slice(), var) {
+            Ok(terms) => Ok(Flat { terms }),
+            Err(fail) => Err(fail),
+        }
+    }
+
+    fn terms(&self, alloc: Global) -> Result<Vec<(Mono, C)>, NoMemory> {
+        copy_terms(alloc, self.terms.as_slice())
+    }
+
+    fn copy(&self, alloc: Global) -> Result<Flat<C>, NoMemory> {
+        match copy_terms(alloc, self.terms.as_slice()) {
+            Ok(terms) => Ok(Flat { terms }),
+            Err(fail) => Err(fail),
+        }
+    }
+}
+
+/// The polynomial that tallies tell.
+fn settled<C: Ring>(alloc: Global, tallies: Vec<Tally<C>>) -> Result<Flat<C>, PolyFail>
+    requires { IsTallied C.value (reverse tallies.items) }
+    ensures value { IfOk result (λ flat. flat ≡ sum_of C.value (reverse tallies.items)) }
+    ensures memory { IfErr result IsStarved }
+{
+    match settle(alloc, tallies) {
+        Ok(terms) => Ok(Flat { terms }),
+        Err(_) => Err(PolyFail::NoMemory),
+    }
+}
+
+/// The sum of two sorted lists of terms.
+fn add_terms<C: Ring>(
+    alloc: Global,
+    left: &[(Mono, C)],
+    right: &[(Mono, C)],
+) -> Result<Vec<Tally<C>>, PolyFail>
+    requires left_sorted { IsSorted (entries C.value left.now) }
+    requires right_sorted { IsSorted (entries C.value right.now) }
+    ensures sum { IfOk result (λ v. Tells C.value (reverse v.items)
+        (polynomial_of (entries C.value left.now) +ᴾ polynomial_of (entries C.value right.now))
+        (polynomial_of (absolutes (entries C.value left.now)) +ᴾ polynomial_of (absolutes (entries C.value right.now)))) }
+    ensures past { IfErr result (λ fail. IsCause fail (polynomial_of (absolutes (entries C.value left.now)) +ᴾ polynomial_of (absolutes (entries C.value right.now)))) }
+{
+    let first = tally_sorted(alloc, left)?;
+    let second = tally_sorted(alloc, right)?;
+    merge(alloc, first, second)
+}
+
+/// Sorted terms as tallies.
+fn tally_sorted<C: Ring>(alloc: Global, terms: &[(Mono, C)]) -> Result<Vec<Tally<C>>, PolyFail>
+    requires { IsSorted (entries C.value terms.now) }
+    ensures sum { IfOk result (λ v. Tells C.value (reverse v.items) (polynomial_of (entries C.value terms.now)) (polynomial_of (absolutes (entries C.value terms.now)))) }
+    ensures past { IfErr result (λ fail. IsCause fail (polynomial_of (absolutes (entries C.value terms.now)))) }
+{
+    times_number(alloc, &C::one(), terms)
+}
+
+/// A number times sorted terms.
+fn times_number<C: Ring>(
+    alloc: Global,
+    c: &C,
+    terms: &[(Mono, C)],
+) -> Result<Vec<Tally<C>>, PolyFail>
+    requires { IsSorted (entries C.value terms.now) }
+    ensures product { IfOk result (λ v. Tells C.value (reverse v.items)
+        (constant (C.value c.now) *ᴾ polynomial_of (entries C.value terms.now))
+        (constant (pos (unsigned_abs (C.value c.now))) *ᴾ polynomial_of (absolutes (entries C.value terms.now)))) }
+    ensures past { IfErr result (λ fail. IsCause fail (constant (pos (unsigned_abs (C.value c.now))) *ᴾ polynomial_of (absolutes (entries C.value terms.now)))) }
+{
+    let one = Mono::one(alloc);
+    times_term(alloc, &one, c, terms)
+}
+
+/// The same terms.
+fn copy_terms<C: Ring>(alloc: Global, terms: &[(Mono, C)]) -> Result<Vec<(Mono, C)>, NoMemory>
+    ensures { IfOk result (λ v. entries C.value v.items ≡ entries C.value terms.now) }
+{
+    let mut out = Vec::new(alloc);
+    for term in terms {
+        push_copy(&mut out, alloc, term)?;
+    }
+    Ok(out)
+}
+
+/// Puts an equal term behind others.
+fn push_copy<C: Ring>(
+    out: &mut Vec<(Mono, C)>,
+    alloc: Global,
+    term: &(Mono, C),
+) -> Result<(), NoMemory>
+    ensures { OnOk result (entries C.value out.new.items ≡ entries C.value out.old.items ++ (term.now.0, C.value term.now.1) ∷ []) }
+{
+    let mono = match term.0.copy(alloc) {
+        Ok(mono) => mono,
+        Err(fail) => return Err(fail),
+    };
+    let c = term.1.copy();
+    if out.push((mono, c)).is_err() {
+        return Err(NoMemory);
+    }
+    Ok(())
+}

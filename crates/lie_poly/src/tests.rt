@@ -1,0 +1,222 @@
+// Each call of a polynomial, at flat polynomials over whole numbers, through the trait's bound.
+use crate::Flat;
+use lie_ring::{Mono, NoMemory, PastKind, PolyFail, Polynomial, Whole};
+use std::alloc::Global;
+use std::process::Abort;
+
+/// A polynomial written as its terms.
+type Terms<'a> = &'a [(&'a [(u32, u32)], i128)];
+
+fn monomial(alloc: Global, pairs: &[(u32, u32)]) -> Mono {
+    match Mono::new(alloc, pairs) {
+        Ok(Some(mono)) => mono,
+        _ => Mono::one(alloc),
+    }
+}
+
+fn listed(alloc: Global, terms: Terms) -> Result<Vec<(Mono, Whole)>, NoMemory> {
+    let mut list = Vec::new(alloc);
+    for (pairs, c) in terms {
+        if let Some(c) = Whole::new(*c) {
+            if list.push((monomial(alloc, pairs), c)).is_err() {
+                return Err(NoMemory);
+            }
+        }
+    }
+    Ok(list)
+}
+
+fn made<P: Polynomial<Whole>>(alloc: Global, terms: Terms) -> Result<P, PolyFail> {
+    match listed(alloc, terms) {
+        Ok(list) => P::of_terms(alloc, list.as_slice()),
+        Err(_) => Err(PolyFail::NoMemory),
+    }
+}
+
+/// Whether the polynomial has just these terms, in this order.
+fn has_terms<P: Polynomial<Whole>>(alloc: Global, p: &P, want: Terms) -> bool {
+    match p.terms(alloc) {
+        Ok(terms) => {
+            let mut same = terms.len() == want.len();
+            for (term, other) in terms.as_slice().iter().zip(want) {
+                same = same && term.0.pairs() == other.0 && term.1.get() == other.1;
+            }
+            same
+        }
+        Err(_) => false,
+    }
+}
+
+/// The answer is a polynomial with just these terms.
+fn wants_terms<P: Polynomial<Whole>>(
+    rt: &impl Abort,
+    alloc: Global,
+    answer: Result<P, PolyFail>,
+    want: Terms,
+) {
+    let same = match answer {
+        Ok(p) => has_terms(alloc, &p, want),
+        Err(_) => false,
+    };
+    assert!(rt; same);
+}
+
+/// The answer is that a number is past what its type holds.
+fn wants_past<P: Polynomial<Whole>>(rt: &impl Abort, answer: Result<P, PolyFail>, want: PastKind) {
+    let same = match answer {
+        Err(PolyFail::Past(kind)) => kind == want,
+        _ => false,
+    };
+    assert!(rt; same);
+}
+
+const X: &[(u32, u32)] = &[(0, 1)];
+
+const Y: &[(u32, u32)] = &[(1, 1)];
+
+const MOST: i128 = i128::MAX;
+
+const HALF: i128 = 1 << 126;
+
+fn sum<P: Polynomial<Whole>>(alloc: Global, p: Terms, q: Terms) -> Result<P, PolyFail> {
+    let p: P = made(alloc, p)?;
+    let q: P = made(alloc, q)?;
+    p.add(alloc, &q)
+}
+
+fn product<P: Polynomial<Whole>>(alloc: Global, p: Terms, q: Terms) -> Result<P, PolyFail> {
+    let p: P = made(alloc, p)?;
+    let q: P = made(alloc, q)?;
+    p.mul(alloc, &q)
+}
+
+fn multiple<P: Polynomial<Whole>>(alloc: Global, p: Terms, c: i128) -> Result<P, PolyFail> {
+    let p: P = made(alloc, p)?;
+    match Whole::new(c) {
+        Some(c) => p.scale(alloc, &c),
+        None => Ok(p),
+    }
+}
+
+fn derivative<P: Polynomial<Whole>>(alloc: Global, p: Terms, var: u32) -> Result<P, PolyFail> {
+    let p: P = made(alloc, p)?;
+    p.derive(alloc, var)
+}
+
+fn copied<P: Polynomial<Whole>>(alloc: Global, p: Terms) -> Result<P, PolyFail> {
+    let p: P = made(alloc, p)?;
+    match p.copy(alloc) {
+        Ok(copy) => Ok(copy),
+        Err(_) => Err(PolyFail::NoMemory),
+    }
+}
+
+fn check_made(rt: &impl Abort, alloc: Global, p: Terms, want: Terms) {
+    let answer: Result<Flat<Whole>, PolyFail> = made(alloc, p);
+    wants_terms(rt, alloc, answer, want);
+}
+
+fn check_sum(rt: &impl Abort, alloc: Global, p: Terms, q: Terms, want: Terms) {
+    let answer: Result<Flat<Whole>, PolyFail> = sum(alloc, p, q);
+    wants_terms(rt, alloc, answer, want);
+}
+
+fn check_product(rt: &impl Abort, alloc: Global, p: Terms, q: Terms, want: Terms) {
+    let answer: Result<Flat<Whole>, PolyFail> = product(alloc, p, q);
+    wants_terms(rt, alloc, answer, want);
+}
+
+fn check_multiple(rt: &impl Abort, alloc: Global, p: Terms, c: i128, want: Terms) {
+    let answer: Result<Flat<Whole>, PolyFail> = multiple(alloc, p, c);
+    wants_terms(rt, alloc, answer, want);
+}
+
+fn check_derivative(rt: &impl Abort, alloc: Global, p: Terms, var: u32, want: Terms) {
+    let answer: Result<Flat<Whole>, PolyFail> = derivative(alloc, p, var);
+    wants_terms(rt, alloc, answer, want);
+}
+
+fn check_copy(rt: &impl Abort, alloc: Global, p: Terms) {
+    let answer: Result<Flat<Whole>, PolyFail> = copied(alloc, p);
+    wants_terms(rt, alloc, answer, p);
+}
+
+#[test]
+fn sums_of_terms(rt: HostRuntime) {
+    let alloc = rt.alloc();
+    check_made(
+        &rt,
+        alloc,
+        &[(&[], 7), (Y, 1), (&[(0, 1), (1, 1)], 2), (X, 3), (&[], -2)],
+        &[(&[(0, 1), (1, 1)], 2), (X, 3), (Y, 1), (&[], 5)],
+    );
+    check_made(&rt, alloc, &[(X, HALF), (X, 1 - HALF)], &[(X, 1)]);
+    check_made(&rt, alloc, &[(X, 4), (Y, 0), (X, -4)], &[]);
+    let past: Result<Flat<Whole>, PolyFail> = made(alloc, &[(X, MOST), (X, -MOST)]);
+    wants_past(&rt, past, PastKind::Coefficient);
+    let past: Result<Flat<Whole>, PolyFail> = made(alloc, &[(&[(3, 65_536)], 1)]);
+    wants_past(&rt, past, PastKind::Exponent);
+}
+
+#[test]
+fn sums(rt: HostRuntime) {
+    let alloc = rt.alloc();
+    check_sum(&rt, alloc, &[(X, HALF)], &[(X, 1 - HALF)], &[(X, 1)]);
+    check_sum(
+        &rt,
+        alloc,
+        &[(X, 1), (&[], 1)],
+        &[(Y, 2), (&[], -1)],
+        &[(X, 1), (Y, 2)],
+    );
+    let past: Result<Flat<Whole>, PolyFail> = sum(alloc, &[(X, MOST)], &[(X, -MOST)]);
+    wants_past(&rt, past, PastKind::Coefficient);
+}
+
+#[test]
+fn products(rt: HostRuntime) {
+    let alloc = rt.alloc();
+    check_product(
+        &rt,
+        alloc,
+        &[(X, 1), (&[], 1)],
+        &[(X, 1), (&[], -1)],
+        &[(&[(0, 2)], 1), (&[], -1)],
+    );
+    check_product(
+        &rt,
+        alloc,
+        &[(X, 1), (Y, 2)],
+        &[(X, 3), (Y, -4)],
+        &[(&[(0, 2)], 3), (&[(0, 1), (1, 1)], 2), (&[(1, 2)], -8)],
+    );
+    let past: Result<Flat<Whole>, PolyFail> = product(alloc, &[(&[(0, 65_535)], 1)], &[(X, 1)]);
+    wants_past(&rt, past, PastKind::Exponent);
+    let past: Result<Flat<Whole>, PolyFail> = product(alloc, &[(X, MOST)], &[(X, 2)]);
+    wants_past(&rt, past, PastKind::Coefficient);
+}
+
+#[test]
+fn multiples_derivatives_and_copies(rt: HostRuntime) {
+    let alloc = rt.alloc();
+    check_multiple(
+        &rt,
+        alloc,
+        &[(&[(0, 3), (2, 1)], 5), (X, -1), (&[], 5)],
+        -3,
+        &[(&[(0, 3), (2, 1)], -15), (X, 3), (&[], -15)],
+    );
+    check_derivative(
+        &rt,
+        alloc,
+        &[(&[(0, 3), (2, 1)], 5), (X, -1), (&[], 5)],
+        0,
+        &[(&[(0, 2), (2, 1)], 15), (&[], -1)],
+    );
+    check_derivative(&rt, alloc, &[(&[], 5)], 0, &[]);
+    check_copy(&rt, alloc, &[(&[(0, 3), (2, 1)], 5), (X, -1), (&[], 5)]);
+    let past: Result<Flat<Whole>, PolyFail> = derivative(alloc, &[(&[(0, 3)], HALF)], 0);
+    wants_past(&rt, past, PastKind::Coefficient);
+    let none: Flat<Whole> = Polynomial::zero(alloc);
+    assert!(rt; none.len() == 0);
+}

@@ -1,0 +1,4 @@
+pub mod PairOrder
+pub mod PairLists
+pub mod PairProducts
+pub mod Ratios

@@ -1,0 +1,5 @@
+pub mod Numbers
+pub mod Causes
+pub mod Entries
+pub mod Pairs
+pub mod Ratios
