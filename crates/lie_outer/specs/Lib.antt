@@ -1,0 +1,5 @@
+-- The definitions that the contracts cite: what an answer says, and what a count shows.
+pub mod Causes
+pub mod Files
+pub mod Sink
+pub mod Memory
