@@ -1,0 +1,10 @@
+pub mod Divisors
+pub mod Exponents
+pub mod Triples
+pub mod EquationOrder
+pub mod Leads
+pub mod Divisibility
+pub mod Normalised
+pub mod Primitive
+pub mod Unique
+pub mod WorkedValues

@@ -1,0 +1,23 @@
+//! Worked values, each a law.
+
+ghost use Rattle.lie_systems.specs.WorkedValues.{TriplesOfSum, DividedEquation, DerivativeAlone, LineSystemIsValid};
+
+/// `2*f1 + x*f2_x - f1` has the triples `x*f2_x` and `f1`, in this order.
+pub fn triples_of_sum()
+    ensures { TriplesOfSum }
+{}
+
+/// `-4*x^2*f1_x + 6*x*f2` is normalised to `2*x*f1_x - 3*f2`.
+pub fn divided_equation()
+    ensures { DividedEquation }
+{}
+
+/// `(x - 2)*f1_y` is normalised to `f1_y`.
+pub fn derivative_alone()
+    ensures { DerivativeAlone }
+{}
+
+/// The determining equations of `y_xx = 0` are a valid system in this order: `f1_yy`, `f2_xx`, `f2_yy - 2*f1_xy`, `2*f2_xy - f1_xx`.
+pub fn line_system_is_valid()
+    ensures { LineSystemIsValid }
+{}

@@ -1,0 +1,6 @@
+//! Linear systems as the program keeps them: triples and their order, normalised equations, valid systems. Definitions and laws.
+#![tactic(auto)]
+
+pub mod equations;
+pub mod examples;
+pub mod forms;
