@@ -1,7 +1,7 @@
 // A polynomial as the list of its terms.
 ghost use Rattle.std.specs.Prelude.{◌≡◌, ◌++◌, ◌∷◌, [], length, reverse, pos, unsigned_abs, IfOk, IfErr, OnOk};
 ghost use Rattle.lie_math.specs.Polynomial.{polynomial_of, constant, ◌+ᴾ◌, ◌*ᴾ◌};
-ghost use Rattle.lie_math.specs.Limits.{absolutes};
+ghost use Rattle.lie_math.specs.Limits.{IsWithinLimits, absolutes};
 ghost use Rattle.lie_ring.specs.Causes.{IsCause};
 ghost use Rattle.lie_ring.specs.Entries.{entries};
 ghost use Rattle.lie_poly.specs.Sorted.{IsSorted};
@@ -40,9 +40,10 @@ impl<C: Ring> Model for Flat<C> {
 }
 
 impl<C: Ring> Flat<C> {
-    /// The number of terms.
+    /// The number of terms. Like its coefficients and exponents it is within the limits.
     pub fn len(&self) -> usize
-        ensures { result ≡ length self.now.list }
+        ensures count { result ≡ length self.now.list }
+        ensures limits { IsWithinLimits self.now }
     {
         self.terms.len()
     }

@@ -1,0 +1,9 @@
+pub mod Binomials
+pub mod CountLists
+pub mod JetNumbers
+pub mod NumberedJets
+pub mod Raised
+pub mod TotalSteps
+pub mod ChainRules
+pub mod TotalParts
+pub mod DerivativeLists

@@ -1,0 +1,19 @@
+use Rattle.std.proofs.Common.{ℕ, arith, subst, sym, ap, ◌∙◌, ◌≡◌, ◌<◌}
+use Rattle.std.specs.Prelude.{pos}
+use Rattle.lie_math.specs.Monomial.{Monomial}
+use Rattle.lie_math.specs.Polynomial.{term, variable}
+use Rattle.lie_geometry.specs.Coordinates.{number}
+use Rattle.lie_jet.proofs.Raised.{low_jet, slope_of_jet, independent_below, slope_at_itself, slope_elsewhere}
+use Rattle.lie_jet.proofs.slopes.slope_of.Goals as goal
+
+pub raise_jet-requires-clause-jet : goal.raise_jet-requires-clause-jet
+raise_jet-requires-clause-jet c = low_jet c.args.space c.in-Some.ensures.small c.args.var c.in-Some.jet c.requires.low c.in-Some.ensures.jet.0 c.in-Some.ensures.jet.1
+
+pub returns-in-Ok-clause-slope : goal.returns-in-Ok-clause-slope
+returns-in-Ok-clause-slope c = ap (λ (m : Monomial). term m (pos 1)) c.in-Ok.ensures.single ∙ ap variable (c.jet_number.ensures.number ∙ ap (number c.args.space) c.raise_jet.ensures.raised) ∙ sym (slope_of_jet c.args.space c.in-Some.ensures.small c.args.var c.args.i _ _ c.requires.within c.in-Some.ensures.jet.1)
+
+pub returns-then-var-from-clause-slope : goal.returns-then-var-from-clause-slope
+returns-then-var-from-clause-slope c = ap (λ (m : Monomial). term m (pos 1)) c.one.ensures ∙ sym (slope_at_itself c.args.space c.in-None.ensures.small c.args.var c.args.i (independent_below c.args.space c.in-None.ensures.small c.args.var c.requires.low c.in-None.ensures.jet) (sym (c.if-var-from.true ∙ c.from.ensures)))
+
+pub returns-else-var-from-clause-slope : goal.returns-else-var-from-clause-slope
+returns-else-var-from-clause-slope c = sym (slope_elsewhere c.args.space c.in-None.ensures.small c.args.var c.args.i (independent_below c.args.space c.in-None.ensures.small c.args.var c.requires.low c.in-None.ensures.jet) (λ e. c.if-var-from.false (sym e ∙ sym c.from.ensures)))

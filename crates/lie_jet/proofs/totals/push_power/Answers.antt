@@ -1,0 +1,37 @@
+use Rattle.std.proofs.Common.{ℕ, ap, subst, sym, ◌∙◌, ◌≡◌, ◌++◌, ◌∷◌, []}
+use Rattle.std.specs.Prelude.{ℤ, pos, unsigned_abs, ◌*ℤ◌}
+use Rattle.lie_math.specs.Monomial.{Monomial, ◌·◌}
+use Rattle.lie_math.specs.PartialDerivative.{lower}
+use Rattle.lie_math.specs.Polynomial.{term, variable, ◌+ᴾ◌}
+use Rattle.lie_geometry.specs.Prolongation.{total_derivative}
+use Rattle.lie_ring.specs.Causes.{IsCause}
+use Rattle.lie_jet.specs.Listed.{sum_listed, bulk_listed}
+use Rattle.lie_jet.proofs.TotalSteps.{sum_one, bulk_one, slope_times, no_slope, size_times, on_ok, if_err}
+use Rattle.lie_jet.proofs.totals.push_power.Goals as goal
+
+pub returns-in-Ok-None-clause-sum : goal.returns-in-Ok-None-clause-sum
+returns-in-Ok-None-clause-sum c = no_slope _ _ _ (rw c.in-Ok-None.field-0-is at c.in-Ok-None.ensures.slope)
+
+pub returns-in-Ok-None-clause-bulk : goal.returns-in-Ok-None-clause-bulk
+returns-in-Ok-None-clause-bulk c = no_slope _ _ _ (rw c.in-Ok-None.field-0-is at c.in-Ok-None.ensures.slope)
+
+pub returns-clause-sum : goal.returns-clause-sum
+returns-clause-sum c =
+    let slope = rw c.in-Ok-Some.field-0-is at c.in-Ok-Some.ensures.slope in
+    let z = c.args.term.now.1 *ℤ pos c.args.exponent in
+    on_ok c.push_product.result (λ e. sum_one c.args.made.now.items c.push_product.new.made.items (c.in-Ok.rest · c.in-Ok-Some.slope) z e
+    ∙ ap (λ p. sum_listed c.args.made.now.items +ᴾ p) (slope_times c.in-Ok-Some.slope c.in-Ok.rest (lower c.args.var c.args.term.now.0) z (total_derivative c.args.space c.args.i (variable c.args.var)) c.in-Ok.ensures slope))
+    c.push_product.ensures.pushed
+
+pub returns-clause-bulk : goal.returns-clause-bulk
+returns-clause-bulk c =
+    let slope = rw c.in-Ok-Some.field-0-is at c.in-Ok-Some.ensures.slope in
+    let z = c.args.term.now.1 *ℤ pos c.args.exponent in
+    on_ok c.push_product.result (λ e. bulk_one c.args.made.now.items c.push_product.new.made.items (c.in-Ok.rest · c.in-Ok-Some.slope) z e
+    ∙ ap (λ p. bulk_listed c.args.made.now.items +ᴾ p) (ap (λ y. term (c.in-Ok.rest · c.in-Ok-Some.slope) y) (size_times c.args.term.now.1 c.args.exponent) ∙ slope_times c.in-Ok-Some.slope c.in-Ok.rest (lower c.args.var c.args.term.now.0) (pos (unsigned_abs c.args.term.now.1) *ℤ pos c.args.exponent) (total_derivative c.args.space c.args.i (variable c.args.var)) c.in-Ok.ensures slope))
+    c.push_product.ensures.pushed
+
+pub returns-clause-past : goal.returns-clause-past
+returns-clause-past c =
+    let slope = rw c.in-Ok-Some.field-0-is at c.in-Ok-Some.ensures.slope in
+    if_err c.push_product.result (λ fail h. subst (IsCause fail) (slope_times c.in-Ok-Some.slope c.in-Ok.rest (lower c.args.var c.args.term.now.0) (pos (unsigned_abs c.args.term.now.1) *ℤ pos c.args.exponent) (total_derivative c.args.space c.args.i (variable c.args.var)) c.in-Ok.ensures slope) h) c.push_product.ensures.past

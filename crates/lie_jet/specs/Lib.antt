@@ -1,0 +1,4 @@
+pub mod Jets
+pub mod Slopes
+pub mod Listed
+pub mod Derivatives

@@ -1,0 +1,168 @@
+// Linear forms in derivatives of unknown functions.
+ghost use Rattle.std.specs.Prelude.{◌≡◌, ◌<◌, ◌≤◌, ◌↔◌, ◌++◌, length, take, drop, IsTrue, IfErr, OnOk};
+ghost use Rattle.lie_math.specs.FiniteSum as finite;
+ghost use Rattle.lie_math.specs.Limits.{absolute};
+ghost use Rattle.lie_math.specs.LinearForm.{forms, no_form, ◌+ᶠ◌, form_term};
+ghost use Rattle.lie_math.specs.Polynomial.{WholePolynomial, ◌+ᴾ◌};
+ghost use Rattle.lie_math.specs.SortedSum.{add_at, put_new};
+ghost use Rattle.lie_ring.specs.Causes.{IsCause};
+ghost use Rattle.lie_poly.specs.Failures.{IsStarved};
+ghost use Rattle.lie_jet.specs.Derivatives.{derivative_of, derivative_terms, GoesTo, GoesNoFurther, IsFirst, IsReplaced, HoldsAt};
+ghost use Rattle.lie_math.proofs.Merge.{IsCanonical};
+
+use crate::derivative::{Der, compare_derivatives};
+use crate::totals::JetPoly;
+use lie_ring::{PolyFail, Polynomial};
+use std::alloc::Global;
+use std::cmp::Ordering;
+use std::marker::Model;
+
+/// A linear form: distinct derivatives in printed order, each with a coefficient that is not 0.
+#[derive(Drop)]
+pub struct SymForm {
+    terms: Vec<(Der, JetPoly)>,
+}
+
+impl Model for SymForm {
+    ghost use Rattle.lie_math.specs.LinearForm.{LinearForm, form_code, forms};
+    ghost use Rattle.lie_math.specs.FiniteSum as finite;
+    ghost use Rattle.lie_math.proofs.Merge.{IsCanonical};
+
+    ghost Value = { LinearForm };
+
+    ghost coded = { form_code };
+
+    ghost use Rattle.lie_jet.specs.Derivatives.{derivative_terms};
+
+    ghost view = { λ f. finite.of forms (derivative_terms f.terms.items) };
+
+    ghost invariant = { λ f. IsCanonical forms (derivative_terms f.terms.items) };
+}
+
+impl SymForm {
+    /// The form without terms. It takes no memory.
+    pub fn zero(alloc: Global) -> SymForm
+        ensures { result ≡ no_form }
+    {
+        SymForm {
+            terms: Vec::new(alloc),
+        }
+    }
+
+    /// The derivatives with their coefficients, in printed order.
+    pub fn terms(&self) -> &[(Der, JetPoly)]
+        ensures { derivative_terms result.now ≡ self.now.list }
+    {
+        self.terms.as_slice()
+    }
+
+    /// Adds a polynomial times a derivative. After an error the form is as it was.
+    pub fn put(&mut self, alloc: Global, der: Der, poly: JetPoly) -> Result<(), PolyFail>
+        ensures sum { OnOk result (self.new ≡ self.old +ᶠ form_term (derivative_of der) poly) }
+        ensures past { IfErr result (λ fail. IsCause fail (absolute (finite.value forms self.old (derivative_of der)) +ᴾ absolute poly)) }
+        ensures kept { IfErr result (λ _. self.new ≡ self.old) }
+    {
+        put_term(&mut self.terms, alloc, der, poly)
+    }
+}
+
+/// Adds a polynomial times a derivative to a list in printed order.
+fn put_term(
+    terms: &mut Vec<(Der, JetPoly)>,
+    alloc: Global,
+    der: Der,
+    poly: JetPoly,
+) -> Result<(), PolyFail>
+    requires { IsCanonical forms (derivative_terms terms.old.items) }
+    ensures items { OnOk result (derivative_terms terms.new.items ≡ add_at forms.order forms.values (derivative_of der) poly (derivative_terms terms.old.items)) }
+    ensures kept { IfErr result (λ _. terms.new.items ≡ terms.old.items) }
+    ensures past { IfErr result (λ fail. IsCause fail (absolute (finite.value forms (finite.of forms (derivative_terms terms.old.items)) (derivative_of der)) +ᴾ absolute poly)) }
+{
+    let place = place_of(terms.as_slice(), &der);
+    if is_at(terms.as_slice(), place, &der) {
+        return add_at_place(terms, alloc, place, &poly);
+    }
+    insert_term(terms, place, der, poly)
+}
+
+/// Adds a polynomial to the coefficient at a place.
+fn add_at_place(
+    terms: &mut Vec<(Der, JetPoly)>,
+    alloc: Global,
+    place: usize,
+    poly: &JetPoly,
+) -> Result<(), PolyFail>
+    requires { place < length terms.old.items }
+    ensures items { OnOk result (IsReplaced (derivative_terms terms.old.items) place (λ a. a +ᴾ poly.now) (derivative_terms terms.new.items)) }
+    ensures kept { IfErr result (λ _. terms.new.items ≡ terms.old.items) }
+    ensures past { IfErr result (λ fail. HoldsAt (derivative_terms terms.old.items) place (λ a. IsCause fail (absolute a +ᴾ absolute poly.now))) }
+{
+    let sum = match terms[place].1.add(alloc, poly) {
+        Ok(sum) => sum,
+        Err(fail) => return Err(fail),
+    };
+    put_coefficient(terms, place, sum);
+    Ok(())
+}
+
+/// Puts a coefficient in the place of another, or takes the derivative away where it is 0.
+fn put_coefficient(terms: &mut Vec<(Der, JetPoly)>, place: usize, coefficient: JetPoly)
+    requires { place < length terms.old.items }
+    ensures { IsReplaced (derivative_terms terms.old.items) place (λ _. coefficient) (derivative_terms terms.new.items) }
+{
+    if coefficient.len() == 0 {
+        let _ = terms.remove(place);
+    } else {
+        terms[place].1 = coefficient;
+    }
+}
+
+/// Puts a polynomial times a derivative at a place, unless it is 0.
+fn insert_term(
+    terms: &mut Vec<(Der, JetPoly)>,
+    place: usize,
+    der: Der,
+    poly: JetPoly,
+) -> Result<(), PolyFail>
+    requires { place ≤ length terms.old.items }
+    ensures items { OnOk result (derivative_terms terms.new.items ≡ take place (derivative_terms terms.old.items) ++ put_new forms.order forms.values (derivative_of der) poly (drop place (derivative_terms terms.old.items))) }
+    ensures kept { IfErr result (λ _. terms.new.items ≡ terms.old.items) }
+    ensures memory { IfErr result IsStarved }
+{
+    if poly.len() == 0 {
+        return Ok(());
+    }
+    if terms.insert(place, (der, poly)).is_err() {
+        return Err(PolyFail::NoMemory);
+    }
+    Ok(())
+}
+
+/// How many derivatives stand before the derivative.
+fn place_of(terms: &[(Der, JetPoly)], der: &Der) -> usize
+    ensures inside { result ≤ length terms.now }
+    ensures before { (a : WholePolynomial) → GoesTo (derivative_of der.now) a (derivative_terms terms.now) result }
+    ensures stop { GoesNoFurther (derivative_of der.now) (drop result (derivative_terms terms.now)) }
+{
+    let mut place = 0;
+    while place < terms.len() {
+        match compare_derivatives(der, &terms[place].0) {
+            Ordering::Greater => place += 1,
+            _ => return place,
+        }
+    }
+    place
+}
+
+/// Whether the derivative stands at the place.
+fn is_at(terms: &[(Der, JetPoly)], place: usize, der: &Der) -> bool
+    ensures { IsTrue result ↔ IsFirst (derivative_of der.now) (drop place (derivative_terms terms.now)) }
+{
+    if place >= terms.len() {
+        return false;
+    }
+    match compare_derivatives(der, &terms[place].0) {
+        Ordering::Equal => true,
+        _ => false,
+    }
+}

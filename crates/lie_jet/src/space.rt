@@ -1,0 +1,24 @@
+// The numbers of variables.
+use std::marker::Model;
+
+/// The numbers of independent and of dependent variables, 1 to 4 each.
+#[derive(Clone, Copy, PartialEq, Eq, Debug)]
+pub struct Space {
+    /// How many independent variables there are.
+    pub p: u8,
+    /// How many dependent variables there are.
+    pub q: u8,
+}
+
+impl Model for Space {
+    ghost use Rattle.std.specs.Prelude.{◌≤◌};
+    ghost use Rattle.lie_geometry.specs.Coordinates as coordinates;
+
+    ghost Value = { coordinates.Space };
+
+    ghost view = { λ s. record { p = s.p; q = s.q } };
+
+    ghost invariant = { λ s. (1 ≤ s.p) × (s.p ≤ 4) × (1 ≤ s.q) × (s.q ≤ 4) };
+
+    ghost inverse = { λ s. record { p = s.p; q = s.q } };
+}

@@ -1,0 +1,143 @@
+// Numbers of jets, total derivatives and forms, as tables.
+ghost use Rattle.std.specs.Prelude.{IsTrue};
+ghost use Rattle.lie_math.specs.Derivation.{is_below};
+ghost use Rattle.lie_math.proofs.Kept.{pairs_in};
+
+use crate::{Der, Field, Jet, JetPoly, Space, SymForm, jet_number, jet_of, total};
+use lie_ring::{Mono, Polynomial, Ring, Whole};
+use std::alloc::Global;
+use std::test::Fail;
+
+#[test]
+fn one_variable_each(rt: HostRuntime) -> Result<(), Fail> {
+    let space = Space { p: 1, q: 1 };
+    let order = |n: u8| Jet {
+        dep: 0,
+        counts: [n, 0, 0, 0],
+    };
+    assert_eq!(rt; jet_number(space, &order(0)), 1);
+    assert_eq!(rt; jet_number(space, &order(1)), 2);
+    assert_eq!(rt; jet_number(space, &order(2)), 3);
+    assert_eq!(rt; jet_of(space, 13), Some(order(12)));
+    assert_eq!(rt; jet_of(space, 0), None);
+    assert_eq!(rt; jet_of(space, 14), None);
+    Ok(())
+}
+
+#[test]
+fn greater_counts_first(rt: HostRuntime) -> Result<(), Fail> {
+    let space = Space { p: 2, q: 1 };
+    let table = [
+        (3, [1, 0, 0, 0]),
+        (4, [0, 1, 0, 0]),
+        (5, [2, 0, 0, 0]),
+        (6, [1, 1, 0, 0]),
+        (7, [0, 2, 0, 0]),
+    ];
+    for (number, counts) in table.iter() {
+        let jet = Jet {
+            dep: 0,
+            counts: *counts,
+        };
+        assert_eq!(rt; jet_of(space, *number), Some(jet));
+    }
+    Ok(())
+}
+
+/// Terms as they are printed: pairs of a variable and an exponent, and a coefficient.
+type Terms<'a> = &'a [(&'a [(u32, u32)], i128)];
+
+fn has_terms(alloc: Global, p: &JetPoly, want: Terms) -> bool {
+    match p.terms(alloc) {
+        Ok(terms) => {
+            let mut same = terms.len() == want.len();
+            for (term, other) in terms.as_slice().iter().zip(want) {
+                same = same && term.0.pairs() == other.0 && term.1.get() == other.1;
+            }
+            same
+        }
+        Err(_) => false,
+    }
+}
+
+/// Whether the total derivative by x of a product of powers is this, for one variable of each kind.
+fn is_total(alloc: Global, pairs: &[(u32, u32)], want: Terms) -> bool
+    requires { IsTrue (pairs_in (is_below 13) pairs.now) }
+{
+    let mono = match Mono::new(alloc, pairs) {
+        Ok(Some(mono)) => mono,
+        _ => return false,
+    };
+    let mut terms = Vec::new(alloc);
+    if terms.push((mono, Whole::one())).is_err() {
+        return false;
+    }
+    let p = match JetPoly::of_terms(alloc, terms.as_slice()) {
+        Ok(p) => p,
+        Err(_) => return false,
+    };
+    match total(alloc, Space { p: 1, q: 1 }, 0, &p) {
+        Ok(derived) => has_terms(alloc, &derived, want),
+        Err(_) => false,
+    }
+}
+
+#[test]
+fn totals_of_products(rt: HostRuntime) -> Result<(), Fail> {
+    let alloc = rt.alloc();
+    assert!(rt;
+        is_total(
+            alloc,
+            &[(0, 1), (2, 2)],
+            &[(&[(0, 1), (2, 1), (3, 1)], 2), (&[(2, 2)], 1)]
+        )
+    );
+    assert!(rt;
+        is_total(
+            alloc,
+            &[(0, 1), (1, 1)],
+            &[(&[(0, 1), (2, 1)], 1), (&[(1, 1)], 1)]
+        )
+    );
+    Ok(())
+}
+
+/// A number as a polynomial.
+fn number(alloc: Global, c: i128) -> Result<JetPoly, Fail> {
+    let c = Whole::new(c).ok_or("too wide")?;
+    let terms = vec![in alloc; (Mono::one(alloc), c)]?;
+    Ok(JetPoly::of_terms(alloc, terms.as_slice())?)
+}
+
+#[test]
+fn greatest_derivative_first(rt: HostRuntime) -> Result<(), Fail> {
+    let alloc = rt.alloc();
+    let lesser = Der {
+        unknown: 2,
+        counts: [0; 8],
+    };
+    let greater = Der {
+        unknown: 1,
+        counts: [1, 0, 0, 0, 0, 0, 0, 0],
+    };
+    let mut form = SymForm::zero(alloc);
+    form.put(alloc, lesser, number(alloc, 1)?)?;
+    form.put(alloc, greater, number(alloc, 2)?)?;
+    form.put(alloc, lesser, number(alloc, 3)?)?;
+    assert_eq!(rt; form.terms().len(), 2);
+    for (term, want) in form.terms().iter().zip(&[(greater, 2), (lesser, 4)]) {
+        assert_eq!(rt; term.0, want.0);
+        assert!(rt; has_terms(alloc, &term.1, &[(&[], want.1)]));
+    }
+    Ok(())
+}
+
+#[test]
+fn fields_keep_their_parts(rt: HostRuntime) -> Result<(), Fail> {
+    let alloc = rt.alloc();
+    let field = Field::new(2, vec![in alloc; number(alloc, 3)?]?);
+    assert_eq!(rt; field.den(), 2);
+    assert_eq!(rt; field.parts().len(), 1);
+    assert_eq!(rt; field.into_parts().len(), 1);
+    Ok(())
+}

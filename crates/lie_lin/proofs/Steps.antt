@@ -1,0 +1,88 @@
+-- The steps of a sum of triples, one derivative after the other.
+use Rattle.std.specs.Prelude.{◌≡◌, ℕ, zero, suc, ◌+◌, ◌<◌, ◌≤◌, T, List, [], ◌∷◌, ◌++◌, length, get_or, take}
+use Rattle.std.proofs.Common.{refl, sym, ap, ap₂, subst, ◌∙◌, arith, add-one, append-nil, length-append}
+use Rattle.std.proofs.Math.Seq.{take-suc}
+use Rattle.std.specs.List.{AllByRecursion as Every}
+use Rattle.lie_math.specs.SortedSum.{is_canonical}
+use Rattle.lie_math.specs.FiniteSum as finite
+use Rattle.lie_math.specs.Polynomial.{WholePolynomial, polynomial_of}
+use Rattle.lie_math.specs.Counts.{Derivative, derivative_cmp}
+use Rattle.lie_math.specs.LinearForm.{forms, LinearForm}
+use Rattle.lie_math.specs.Limits.{absolutes}
+use Rattle.lie_math.specs.Limits.{IsWithinLimits as IsPolynomialWithinLimits}
+use Rattle.lie_systems.specs.Triples.{Triple, triples_in, triples_with, sum_of_triples}
+use Rattle.lie_systems.specs.Bulk.{absolute_triples, bulk, HasManyTriples, IsWithinLimits}
+use Rattle.lie_ring.specs.Causes.{IsCause}
+use Rattle.lie_ring.specs.declared.failures.PolyFail.{PolyFail}
+use Rattle.lie_jet.specs.declared.derivative.Der.{Der}
+use Rattle.lie_lin.specs.Causes.{IsFormCause}
+use Rattle.lie_lin.specs.Forms.{derivatives_of, terms_at, coefficient_at, gathered, unless_zero, kept, AreDerivatives}
+use Rattle.lie_jet.specs.Derivatives.{derivative_of}
+use Rattle.lie_lin.proofs.Forms.{triples_in-append}
+use Rattle.lie_lin.proofs.Placing.{derivatives_of-append}
+use Rattle.lie_lin.proofs.Gathering.{gathered-append, kept-push, terms_at-absolute, canonical_kept, sum_is_kept}
+use Rattle.lie_lin.proofs.FormLimits.{cause_of_part, within_of_parts, many_of_parts, length-with}
+
+get_same : (ders : List Der) (i : ℕ) (d e : Der) → i < length ders → get_or ders i d ≡ get_or ders i e
+get_same [] i d e lt = absurd (omega arith)
+get_same (x ∷ ders) zero d e lt = refl
+get_same (x ∷ ders) (suc i) d e lt = get_same ders i d e (omega arith)
+
+one_more : (ders : List Der) (i : ℕ) (d : Der) → i < length ders → derivatives_of (take (i + 1) ders) ≡ derivatives_of (take i ders) ++ derivative_of (get_or ders i d) ∷ []
+one_more ders i d lt = ap (λ n. derivatives_of (take n ders)) (add-one i) ∙ ap derivatives_of (take-suc ders i d lt) ∙ derivatives_of-append (take i ders) (get_or ders i d ∷ [])
+
+pub sum_step : (new old : List (Derivative × WholePolynomial)) (ders : List Der) (ts : List Triple) (i : ℕ) (d : Der) (p : WholePolynomial) → i < length ders → new ≡ old ++ unless_zero (derivative_of (get_or ders i d)) p [] → old ≡ kept (gathered (derivatives_of (take i ders)) ts) → p ≡ polynomial_of (terms_at (derivative_of (get_or ders i d)) ts)
+    → new ≡ kept (gathered (derivatives_of (take (i + 1) ders)) ts)
+sum_step new old ders ts i d p lt h k e =
+    h ∙ ap₂ (λ es q. es ++ unless_zero (derivative_of (get_or ders i d)) q []) k e
+    ∙ sym (ap (λ ds. kept (gathered ds ts)) (one_more ders i d lt) ∙ ap kept (gathered-append (derivatives_of (take i ders)) (derivative_of (get_or ders i d) ∷ []) ts)
+    ∙ kept-push (gathered (derivatives_of (take i ders)) ts) (derivative_of (get_or ders i d), coefficient_at (derivative_of (get_or ders i d)) ts))
+
+pub count_step : (n k : ℕ) (ders : List Der) (ts : List Triple) (i : ℕ) (d : Der) → i < length ders → n ≡ length (triples_in (gathered (derivatives_of (take i ders)) (absolute_triples ts))) → k ≡ length (polynomial_of (absolutes (terms_at (derivative_of (get_or ders i d)) ts))).list
+    → n + k ≡ length (triples_in (gathered (derivatives_of (take (i + 1) ders)) (absolute_triples ts)))
+count_step n k ders ts i d lt h e =
+    ap₂ ◌+◌ h (e ∙ ap (λ es. length (polynomial_of es).list) (sym (terms_at-absolute x ts)) ∙ sym (length-with x (coefficient_at x us).list) ∙ ap length (sym (append-nil (triples_with x (coefficient_at x us).list))))
+    ∙ sym (length-append (triples_in (gathered (derivatives_of (take i ders)) us)) (triples_in (gathered (x ∷ []) us)))
+    ∙ ap length (sym (ap (λ ds. triples_in (gathered ds us)) (one_more ders i d lt) ∙ ap triples_in (gathered-append (derivatives_of (take i ders)) (x ∷ []) us) ∙ triples_in-append (gathered (derivatives_of (take i ders)) us) (gathered (x ∷ []) us)))
+  where
+    x : Derivative
+    x = derivative_of (get_or ders i d)
+
+    us : List Triple
+    us = absolute_triples ts
+
+every_push : (P : Derivative → Type 0) (ds : List Derivative) (d : Derivative) → Every P ds → P d → Every P (ds ++ d ∷ [])
+every_push P [] d h k = (k, tt)
+every_push P (e ∷ ds) d h k = (h.0, every_push P ds d h.1 k)
+
+abbrev pub AreWithin : List Derivative → List Triple → Type 0
+AreWithin ds ts = Every (λ d. IsPolynomialWithinLimits (polynomial_of (absolutes (terms_at d ts)))) ds
+
+pub within_step : (ders : List Der) (ts : List Triple) (i : ℕ) (d : Der) → i < length ders → AreWithin (derivatives_of (take i ders)) ts → IsPolynomialWithinLimits (polynomial_of (absolutes (terms_at (derivative_of (get_or ders i d)) ts))) → AreWithin (derivatives_of (take (i + 1) ders)) ts
+within_step ders ts i d lt h k = subst (λ ds. AreWithin ds ts) (sym (one_more ders i d lt)) (every_push (λ d. IsPolynomialWithinLimits (polynomial_of (absolutes (terms_at d ts)))) (derivatives_of (take i ders)) (derivative_of (get_or ders i d)) h k)
+
+pub cause_at : (ders : List Der) (ts : List Triple) → AreDerivatives (derivatives_of ders) ts → (i : ℕ) (d : Der) → i < length ders → (fail : PolyFail) → IsCause fail (polynomial_of (absolutes (terms_at (derivative_of (get_or ders i d)) ts))) → IsFormCause fail (bulk ts)
+cause_at ders ts all i d lt fail h = cause_of_part ders ts all i (get_or ders i d) lt (get_same ders i d (get_or ders i d) lt) fail h
+
+take_past : (ders : List Der) (i : ℕ) → length ders ≤ i → take i ders ≡ ders
+take_past [] zero le = refl
+take_past [] (suc i) le = refl
+take_past (x ∷ ders) zero le = absurd (omega arith)
+take_past (x ∷ ders) (suc i) le = ap (λ ds. x ∷ ds) (take_past ders i (omega arith))
+
+pub many_at : (ders : List Der) (ts : List Triple) → AreDerivatives (derivatives_of ders) ts → (i n : ℕ) → length ders ≤ i → n ≡ length (triples_in (gathered (derivatives_of (take i ders)) (absolute_triples ts))) → 1000000 < n → HasManyTriples (bulk ts)
+many_at ders ts all i n le e h = many_of_parts ders ts all (subst (λ k. 1000000 < k) (e ∙ ap (λ ds. length (triples_in (gathered (derivatives_of ds) (absolute_triples ts)))) (take_past ders i le)) h)
+
+pub within_at : (ders : List Der) (ts : List Triple) → AreDerivatives (derivatives_of ders) ts → (i n : ℕ) → length ders ≤ i → n ≡ length (triples_in (gathered (derivatives_of (take i ders)) (absolute_triples ts))) → n ≤ 1000000 → AreWithin (derivatives_of (take i ders)) ts → IsWithinLimits (bulk ts)
+within_at ders ts all i n le e h w =
+    within_of_parts ders ts all (subst (λ ds. AreWithin (derivatives_of ds) ts) (take_past ders i le) w)
+    (subst (λ k. k ≤ 1000000) (e ∙ ap (λ ds. length (triples_in (gathered (derivatives_of ds) (absolute_triples ts)))) (take_past ders i le)) h)
+
+pub all_of_slice : (s ders : List Der) (ts : List Triple) → s ≡ ders → AreDerivatives (derivatives_of ders) ts → AreDerivatives (derivatives_of s) ts
+all_of_slice s ders ts e h = subst (λ ds. AreDerivatives (derivatives_of ds) ts) (sym e) h
+
+pub coefficients_kept : (es : List (Derivative × WholePolynomial)) (ds : List Derivative) (ts : List Triple) → AreDerivatives ds ts → es ≡ kept (gathered ds ts) → T (is_canonical derivative_cmp forms.values es)
+coefficients_kept es ds ts all e = subst (λ xs. T (is_canonical derivative_cmp forms.values xs)) (sym e) (canonical_kept ds ts all.ordered)
+
+pub sum_of_kept : (E : LinearForm) (es : List (Derivative × WholePolynomial)) (ds : List Derivative) (ts : List Triple) → AreDerivatives ds ts → E ≡ finite.of forms es → es ≡ kept (gathered ds ts) → E ≡ sum_of_triples ts
+sum_of_kept E es ds ts all i e = i ∙ ap (finite.of forms) e ∙ sum_is_kept ds ts all.ordered all.all

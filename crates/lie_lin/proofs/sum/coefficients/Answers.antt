@@ -1,0 +1,21 @@
+use Rattle.std.proofs.Common.{arith}
+use Rattle.lie_lin.specs.Forms.{triples_of}
+use Rattle.lie_lin.proofs.Steps.{sum_step, count_step, within_step, cause_at, many_at, within_at}
+use Rattle.lie_lin.proofs.sum.coefficients.Goals as goal
+
+pub loop-der-preserved : goal.loop-der-preserved
+loop-der-preserved c = record {
+  sum = sum_step _ _ c.args.ders.now (triples_of c.args.list.now) c.loop-der.der-index _ c.in-Ok.found.0 (omega arith) c.in-Ok-push_unless_zero.ensures c.loop-der.invariant.sum c.in-Ok.ensures.value;
+  count = count_step c.loop-der.count c.in-Ok.found.1 c.args.ders.now (triples_of c.args.list.now) c.loop-der.der-index _ (omega arith) c.loop-der.invariant.count c.in-Ok.ensures.size;
+  small = omega (arith, c.in-Ok.ensures.size, c.in-Ok.ensures.fits.terms);
+  within = within_step c.args.ders.now (triples_of c.args.list.now) c.loop-der.der-index _ (omega arith) c.loop-der.invariant.within c.in-Ok.ensures.fits;
+}
+
+pub returns-in-Err-clause-past : goal.returns-in-Err-clause-past
+returns-in-Err-clause-past c = cause_at c.args.ders.now (triples_of c.args.list.now) c.requires c.loop-der.der-index _ (omega arith) c.in-Err.fail c.in-Err.ensures.past
+
+pub returns-then-count-gt-MAX_TRIPLES-clause-past : goal.returns-then-count-gt-MAX_TRIPLES-clause-past
+returns-then-count-gt-MAX_TRIPLES-clause-past c = many_at c.args.ders.now (triples_of c.args.list.now) c.requires c.loop-der.der-index c.loop-der.count (omega arith) c.loop-der.invariant.count (omega arith)
+
+pub returns-clause-fits : goal.returns-clause-fits
+returns-clause-fits c = within_at c.args.ders.now (triples_of c.args.list.now) c.requires c.loop-der.der-index c.loop-der.count (omega arith) c.loop-der.invariant.count (omega arith) c.loop-der.invariant.within

@@ -1,0 +1,192 @@
+// Sums of triples.
+ghost use Rattle.std.specs.Prelude.{◌≡◌, ◌≤◌, ◌<◌, ◌++◌, ◌∷◌, [], length, map, pos, unsigned_abs, IfOk, OnOk, IfErr};
+ghost use Rattle.lie_math.specs.Polynomial.{polynomial_of};
+ghost use Rattle.lie_math.specs.Limits.{absolutes};
+ghost use Rattle.lie_math.specs.Limits.{IsWithinLimits as IsPolynomialWithinLimits};
+ghost use Rattle.lie_systems.specs.Triples.{sum_of_triples};
+ghost use Rattle.lie_systems.specs.Bulk.{bulk, IsWithinLimits};
+ghost use Rattle.lie_ring.specs.Causes.{IsCause};
+ghost use Rattle.lie_lin.specs.Causes.{IsFormCause};
+ghost use Rattle.lie_lin.specs.Forms.{derivatives_of, coefficients_of, triples_of, terms_at, AreDerivatives, gathered, kept, unless_zero};
+ghost use Rattle.lie_jet.specs.Derivatives.{derivative_of};
+
+use crate::derivatives::{compare, derivatives};
+use crate::equation::LinEq;
+use lie_jet::Der;
+use lie_poly::Flat;
+use lie_ring::{Mono, NoMemory, PastKind, PolyFail, Polynomial, Ring, Whole};
+use std::alloc::Global;
+
+/// The greatest number of triples of a form.
+const MAX_TRIPLES: u128 = 1_000_000;
+
+/// The sum of triples of a derivative, a monomial and a number, in any order. Past exactly where the sum of the triples with the
+/// absolute values of their numbers has a number past 2^127 - 1, an exponent past 65,535 or more than 1,000,000 triples.
+pub fn of_triples(alloc: Global, list: &[(Der, Mono, Whole)]) -> Result<LinEq, PolyFail>
+    ensures sum { IfOk result (λ eq. eq ≡ sum_of_triples (triples_of list.now)) }
+    ensures fits { OnOk result (IsWithinLimits (bulk (triples_of list.now))) }
+    ensures past { IfErr result (λ fail. IsFormCause fail (bulk (triples_of list.now))) }
+{
+    let ders = match derivatives(alloc, list) {
+        Ok(ders) => ders,
+        Err(_) => return Err(PolyFail::NoMemory),
+    };
+    match coefficients(alloc, list, ders.as_slice()) {
+        Ok(terms) => Ok(LinEq::of_terms(terms)),
+        Err(fail) => Err(fail),
+    }
+}
+
+/// The coefficients of derivatives in a sum of triples.
+fn coefficients(
+    alloc: Global,
+    list: &[(Der, Mono, Whole)],
+    ders: &[Der],
+) -> Result<Vec<(Der, Flat<Whole>)>, PolyFail>
+    requires { AreDerivatives (derivatives_of ders.now) (triples_of list.now) }
+    ensures sum { IfOk result (λ terms. coefficients_of terms.items ≡ kept (gathered (derivatives_of ders.now) (triples_of list.now))) }
+    ensures fits { OnOk result (IsWithinLimits (bulk (triples_of list.now))) }
+    ensures past { IfErr result (λ fail. IsFormCause fail (bulk (triples_of list.now))) }
+{
+    let mut terms = Vec::new(alloc);
+    let mut count: u128 = 0;
+    for der in ders {
+        let (coefficient, size) = match coefficient_of(alloc, list, der) {
+            Ok(found) => found,
+            Err(fail) => return Err(fail),
+        };
+        count += size as u128;
+        match push_unless_zero(&mut terms, der, coefficient) {
+            Ok(()) => {}
+            Err(_) => return Err(PolyFail::NoMemory),
+        }
+    }
+    if count > MAX_TRIPLES {
+        return Err(PolyFail::Past(PastKind::Terms));
+    }
+    Ok(terms)
+}
+
+/// The coefficient of one derivative in a sum of triples, and the number of terms of its bulk.
+fn coefficient_of(
+    alloc: Global,
+    list: &[(Der, Mono, Whole)],
+    der: &Der,
+) -> Result<(Flat<Whole>, usize), PolyFail>
+    ensures value { IfOk result (λ found. found.0 ≡ polynomial_of (terms_at (derivative_of der.now) (triples_of list.now))) }
+    ensures size { IfOk result (λ found. found.1 ≡ length (polynomial_of (absolutes (terms_at (derivative_of der.now) (triples_of list.now)))).list) }
+    ensures fits { OnOk result (IsPolynomialWithinLimits (polynomial_of (absolutes (terms_at (derivative_of der.now) (triples_of list.now))))) }
+    ensures past { IfErr result (λ fail. IsCause fail (polynomial_of (absolutes (terms_at (derivative_of der.now) (triples_of list.now))))) }
+{
+    let terms = match terms_of(alloc, list, der) {
+        Ok(terms) => terms,
+        Err(_) => return Err(PolyFail::NoMemory),
+    };
+    let coefficient = match flat_of(alloc, terms.as_slice()) {
+        Ok(coefficient) => coefficient,
+        Err(fail) => return Err(fail),
+    };
+    let sizes = match sizes_of(alloc, terms.as_slice()) {
+        Ok(sizes) => sizes,
+        Err(_) => return Err(PolyFail::NoMemory),
+    };
+    match flat_of(alloc, sizes.as_slice()) {
+        Ok(bulk) => Ok((coefficient, bulk.len())),
+        Err(fail) => Err(fail),
+    }
+}
+
+/// The sum of terms.
+fn flat_of(alloc: Global, terms: &[(Mono, Whole)]) -> Result<Flat<Whole>, PolyFail>
+    ensures value { IfOk result (λ flat. flat ≡ polynomial_of terms.now) }
+    ensures fits { OnOk result (IsPolynomialWithinLimits (polynomial_of (absolutes terms.now))) }
+    ensures past { IfErr result (λ fail. IsCause fail (polynomial_of (absolutes terms.now))) }
+{
+    Flat::of_terms(alloc, terms)
+}
+
+/// The terms of the triples of one derivative.
+fn terms_of(
+    alloc: Global,
+    list: &[(Der, Mono, Whole)],
+    der: &Der,
+) -> Result<Vec<(Mono, Whole)>, NoMemory>
+    ensures { IfOk result (λ terms. terms.items ≡ terms_at (derivative_of der.now) (triples_of list.now)) }
+{
+    let mut terms = Vec::new(alloc);
+    for triple in list {
+        push_of(&mut terms, alloc, triple, der)?;
+    }
+    Ok(terms)
+}
+
+/// Puts the term of a triple behind others, where the triple has the derivative.
+fn push_of(
+    terms: &mut Vec<(Mono, Whole)>,
+    alloc: Global,
+    triple: &(Der, Mono, Whole),
+    der: &Der,
+) -> Result<(), NoMemory>
+    ensures { OnOk result (terms.new.items ≡ terms.old.items ++ terms_at (derivative_of der.now) ((derivative_of triple.now.0, triple.now.1, triple.now.2) ∷ [])) }
+{
+    if compare(der, &triple.0).is_eq() {
+        return push_term(terms, alloc, &triple.1, triple.2);
+    }
+    Ok(())
+}
+
+/// The terms with the absolute values of their numbers.
+fn sizes_of(alloc: Global, terms: &[(Mono, Whole)]) -> Result<Vec<(Mono, Whole)>, NoMemory>
+    ensures { IfOk result (λ sizes. sizes.items ≡ absolutes terms.now) }
+{
+    let mut sizes = Vec::new(alloc);
+    for (mono, number) in terms {
+        push_term(&mut sizes, alloc, mono, absolute(*number))?;
+    }
+    Ok(sizes)
+}
+
+/// The absolute value.
+fn absolute(number: Whole) -> Whole
+    ensures { result ≡ pos (unsigned_abs number) }
+{
+    if number.get() < 0 {
+        number.neg()
+    } else {
+        number
+    }
+}
+
+/// Puts a term behind others.
+fn push_term(
+    terms: &mut Vec<(Mono, Whole)>,
+    alloc: Global,
+    mono: &Mono,
+    number: Whole,
+) -> Result<(), NoMemory>
+    ensures { OnOk result (terms.new.items ≡ terms.old.items ++ (mono.now, number) ∷ []) }
+{
+    let mono = mono.copy(alloc)?;
+    match terms.push((mono, number)) {
+        Ok(()) => Ok(()),
+        Err(_) => Err(NoMemory),
+    }
+}
+
+/// Puts a derivative with its coefficient behind others, unless the coefficient is 0.
+fn push_unless_zero(
+    terms: &mut Vec<(Der, Flat<Whole>)>,
+    der: &Der,
+    coefficient: Flat<Whole>,
+) -> Result<(), NoMemory>
+    ensures { OnOk result (coefficients_of terms.new.items ≡ coefficients_of terms.old.items ++ unless_zero (derivative_of der.now) coefficient []) }
+{
+    if coefficient.len() == 0 {
+        return Ok(());
+    }
+    match terms.push((*der, coefficient)) {
+        Ok(()) => {}
+        Err(_) => return Err(NoMemory),
+    }
+    Ok(())
+}
