@@ -1,0 +1,19 @@
+-- The equation that the terms of a line make.
+use Rattle.std.specs.Prelude.{ℕ, ◌≡◌, List, [], ◌∷◌, ℤ, Ok, Option, refl}
+use Rattle.std.proofs.Common.{ap}
+use Rattle.lie_math.specs.Monomial.{Monomial}
+use Rattle.lie_math.specs.Polynomial.{WholePolynomial, polynomial_of}
+use Rattle.lie_geometry.specs.Coordinates.{Space, Coordinate}
+use Rattle.lie_ring.specs.Entries.{entries}
+use Rattle.lie_gram.specs.Terms.{equation_of}
+use Rattle.lie_gram.specs.Leads.{lead_of}
+use Rattle.lie_gram.specs.Files.{equation_at}
+
+entries_same : (ts : List (Monomial × ℤ)) → entries (λ w. w) ts ≡ ts
+entries_same [] = refl
+entries_same (t ∷ ts) = ap (λ l. t ∷ l) (entries_same ts)
+
+pub equation_is : (S : Space) (names text : List ℕ) (ts fs : List (Monomial × ℤ)) (lead : Option Coordinate) (diff : WholePolynomial)
+    → equation_of S names text ≡ Ok ts → lead ≡ lead_of S names text → diff ≡ polynomial_of (entries (λ w. w) fs) → fs ≡ ts → equation_at S names text ≡ Ok (record { lead = lead; diff = diff })
+unfolding equation_at
+equation_is S names text ts fs lead diff is_terms is_lead is_diff same = rw (is_terms, is_lead, is_diff, entries_same fs, same) refl

@@ -1,0 +1,10 @@
+pub mod RunSteps
+pub mod CountSteps
+pub mod TurnSteps
+pub mod Shorter
+pub mod ExponentSteps
+pub mod FactorSteps
+pub mod SizeSteps
+pub mod TermSteps
+pub mod NameSteps
+pub mod EquationSteps

@@ -1,0 +1,23 @@
+use Rattle.std.specs.Prelude.{◌≡◌, Bool, true, false, Some, None, if◌then◌else◌, unsigned_abs, ◌+◌}
+use Rattle.std.proofs.Common.{◌∙◌, ap, subst, sym}
+use Rattle.lie_gram.specs.Sizes.{AreSizes}
+use Rattle.lie_gram.proofs.SizeSteps.{sizes_step, unsigned_abs-signed}
+use Rattle.lie_gram.proofs.terms.Terms.with_term.Goals as goal
+
+some_is : {A : Type 0} (b : Bool) (x y : A) → Some x ≡ (if b then Some y else None) → x ≡ y
+some_is true x y e = cc
+some_is false x y e = cc
+
+some_same : {A : Type 0} (x y : A) → Some x ≡ Some y → x ≡ y
+some_same x y e = cc
+
+pub invariant_of-result : goal.invariant_of-result
+invariant_of-result c =
+    let value = some_same c.in-Some-Some.value _ c.in-Some-Some.ensures' in
+    let total = some_is _ c.in-Some-Some.total _ c.in-Some-Some.ensures in
+    record {
+      sized = subst (AreSizes c.in_ok-sizes-in-Some-Some.sizes) (sym c.in_ok-list-in-Some-Some.ensures)
+          (sizes_step c.args.self.sizes c.in_ok-sizes-in-Some-Some.sizes c.args.self.list.items c.in_ok-key.key c.args.mono c.in-Some-Some.value c.args.number c.in-Some-Some.total
+          c.args.self.sized (c.in_ok-key.ensures.items ∙ c.pairs.ensures) (total ∙ ap (λ s. s + c.args.number) c.size_at-size.ensures)
+          (ap unsigned_abs value ∙ unsigned_abs-signed c.args.negative c.args.number) c.in_ok-sizes-in-Some-Some.ensures);
+    }

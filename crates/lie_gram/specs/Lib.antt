@@ -1,0 +1,14 @@
+pub mod Runs
+pub mod Stops
+pub mod Tokens
+pub mod Variables
+pub mod Turns
+pub mod Terms
+pub mod Exponents
+pub mod Answers
+pub mod Sizes
+pub mod Leads
+pub mod FileLines
+pub mod Files
+pub mod Equations
+pub mod Reading

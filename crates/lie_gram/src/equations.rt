@@ -1,0 +1,115 @@
+// The equations of a file.
+ghost use Rattle.std.specs.Prelude.{◌≡◌, ◌+◌, ◌≤◌, length, map, option_map, []};
+ghost use Rattle.lie_gram.specs.Stops.{Reads};
+ghost use Rattle.lie_gram.specs.FileLines.{ReadsFile};
+ghost use Rattle.lie_gram.specs.Files.{equation_at, end_of, line_of, equations_from};
+ghost use Rattle.lie_gram.specs.Equations.{equation_read};
+
+use crate::fault::BadKind;
+use crate::lead::lead_of;
+use crate::lines::{FileFail, behind_word, failed, fault_at, is_word, next_line};
+use crate::runs::{Class, after_blanks, split_run};
+use crate::stop::LineFail;
+use crate::sum::equation_of;
+use crate::system::Equation;
+use lie_jet::Space;
+use lie_poly::Flat;
+use lie_ring::Polynomial;
+use std::alloc::Global;
+
+/// The most equations of a file.
+const MAX_EQUATIONS: usize = 16;
+
+// The equation that a text spells.
+#[tactic(auto, unfolding(crate::specs::Files::equation_at))]
+fn equation_at(alloc: Global, space: Space, names: &[u8], text: &[u8]) -> Result<Equation, LineFail>
+    requires { length names.now ≡ space.p + space.q }
+    ensures { Reads (equation_read space) result (equation_at space names.now text.now) }
+{
+    let terms = equation_of(alloc, space, names, text)?;
+    let lead = lead_of(space, names, text);
+    match Flat::of_terms(alloc, terms.list.as_slice()) {
+        Ok(diff) => Ok(Equation { lead, diff }),
+        Err(_) => Err(LineFail::NoMemory),
+    }
+}
+
+// Whether only skipped lines are behind the end.
+fn end_of(content: &[u8], rest: &[&[u8]]) -> Result<(), FileFail>
+    requires { length rest.now ≤ 65537 }
+    ensures { ReadsFile (λ done. done) result (end_of content.now (map (λ l. l.now) rest.now)) }
+{
+    let further = after_blanks(behind_word(content));
+    if !further.is_empty() {
+        return Err(fault_at(BadKind::Syntax, content, rest.len(), further));
+    }
+    match next_line(rest) {
+        None => Ok(()),
+        Some((other, behind)) => Err(fault_at(
+            BadKind::UnknownWord,
+            other,
+            behind.len(),
+            after_blanks(other),
+        )),
+    }
+}
+
+// The equation of a line behind `count` others; None where the line is the end.
+#[tactic(auto, unfolding(crate::specs::Files::line_of))]
+fn line_of(
+    alloc: Global,
+    space: Space,
+    names: &[u8],
+    count: usize,
+    content: &[u8],
+    rest: &[&[u8]],
+) -> Result<Option<Equation>, FileFail>
+    requires names { length names.now ≡ space.p + space.q }
+    requires few { length rest.now ≤ 65537 }
+    ensures { ReadsFile (option_map (equation_read space)) result (line_of space names.now count content.now (map (λ l. l.now) rest.now)) }
+{
+    let text = after_blanks(content);
+    if is_word(b"eq".as_slice(), content) {
+        if MAX_EQUATIONS <= count {
+            return Err(fault_at(BadKind::TooManyEquations, content, rest.len(), text));
+        }
+        match equation_at(alloc, space, names, behind_word(content)) {
+            Ok(equation) => Ok(Some(equation)),
+            Err(fail) => Err(failed(fail, content, rest.len())),
+        }
+    } else if is_word(b"end".as_slice(), content) {
+        if count == 0 {
+            return Err(fault_at(BadKind::Syntax, content, rest.len(), text));
+        }
+        end_of(content, rest)?;
+        Ok(None)
+    } else {
+        Err(fault_at(BadKind::UnknownWord, content, rest.len(), text))
+    }
+}
+
+/// The equations of the lines up to the end.
+pub fn equations_of(
+    alloc: Global,
+    space: Space,
+    names: &[u8],
+    lines: &[&[u8]],
+) -> Result<Vec<Equation>, FileFail>
+    requires names { length names.now ≡ space.p + space.q }
+    requires few { length lines.now ≤ 65537 }
+    ensures { ReadsFile (λ es. map (equation_read space) es.items) result (equations_from space names.now [] (map (λ l. l.now) lines.now)) }
+{
+    let mut equations: Vec<Equation> = Vec::new(alloc);
+    let mut i = 0;
+    while i < lines.len() {
+        let (content, _) = split_run(Class::Content, lines[i]);
+        i += 1;
+        if !after_blanks(content).is_empty() {
+            match line_of(alloc, space, names, equations.len(), content, &lines[i..])? {
+                Some(equation) => equations.push(equation)?,
+                None => return Ok(equations),
+            }
+        }
+    }
+    Err(FileFail::Ended)
+}

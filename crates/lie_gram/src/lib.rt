@@ -1,0 +1,26 @@
+//! Equation files and field texts: their grammar, read with the first fault and its place, and printed.
+#![tactic(auto)]
+
+mod coordinate;
+mod equations;
+mod fault;
+mod file;
+mod lead;
+mod lines;
+mod names;
+mod number;
+mod power;
+mod reading;
+mod runs;
+mod stop;
+mod sum;
+mod system;
+mod term;
+mod terms;
+
+pub use fault::{BadFile, BadKind, ReadFail};
+pub use reading::read_system;
+pub use system::{Equation, System};
+
+#[cfg(test)]
+mod tests;

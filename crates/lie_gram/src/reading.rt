@@ -1,0 +1,133 @@
+// Reading the bytes of a file.
+ghost use Rattle.std.specs.Prelude.{◌≡◌, ◌≤◌, ◌+◌, length, map, min};
+ghost use Rattle.lie_gram.specs.Files.{is_allowed, not_allowed_from};
+ghost use Rattle.lie_gram.specs.Reading.{bad, last_length, file_fault, read_lines, read, Answers};
+ghost use Rattle.lie_gram.specs.Equations.{system_read};
+
+use crate::fault::{BadFile, BadKind, ReadFail};
+use crate::file::system_of;
+use crate::lines::{FileFail, lines_of};
+use crate::system::System;
+use std::alloc::Global;
+
+/// The most bytes of a text.
+const MAX_BYTES: usize = 65_536;
+
+// Whether a byte is allowed before others.
+fn is_allowed(byte: u8, behind: &[u8]) -> bool
+    ensures { result ≡ is_allowed byte behind.now }
+{
+    if byte == b'\r' {
+        match behind {
+            [b'\n', ..] => true,
+            _ => false,
+        }
+    } else {
+        byte == b'\t' || byte == b'\n' || (b' ' <= byte && byte <= b'~')
+    }
+}
+
+// The line and column of the first byte that is not allowed.
+fn first_not_allowed(bytes: &[u8]) -> Option<(usize, usize)>
+    requires { length bytes.now ≤ 65536 }
+    ensures { result ≡ not_allowed_from 1 1 bytes.now }
+{
+    let mut line = 1;
+    let mut column = 1;
+    let mut i = 0;
+    while i < bytes.len() {
+        let byte = bytes[i];
+        i += 1;
+        if !is_allowed(byte, &bytes[i..]) {
+            return Some((line, column));
+        }
+        if byte == b'\n' {
+            line += 1;
+            column = 1;
+        } else {
+            column += 1;
+        }
+    }
+    None
+}
+
+// A place as 32 bits hold it.
+fn shown(place: usize) -> u32
+    ensures { result ≡ min place 4294967295 }
+{
+    if place <= 4_294_967_295 {
+        place as u32
+    } else {
+        4_294_967_295
+    }
+}
+
+// A fault with its place.
+fn bad(line: usize, column: usize, kind: BadKind) -> ReadFail
+    ensures { result ≡ bad line column kind }
+{
+    ReadFail::Bad(BadFile {
+        line: shown(line),
+        column: shown(column),
+        kind,
+    })
+}
+
+// The length of the last line.
+fn last_length(lines: &[&[u8]]) -> usize
+    ensures { result ≡ last_length (map (λ l. l.now) lines.now) }
+{
+    let mut last = 0;
+    for line in lines {
+        last = line.len();
+    }
+    last
+}
+
+// The fault of a file of these lines with its place.
+fn file_fault(lines: &[&[u8]], fail: FileFail) -> ReadFail
+    requires { length lines.now ≤ 65537 }
+    ensures { result ≡ file_fault (map (λ l. l.now) lines.now) fail }
+{
+    match fail {
+        FileFail::Fault(stop) => bad(
+            lines.len().saturating_sub(stop.lines_left) + 1,
+            stop.column,
+            stop.kind,
+        ),
+        FileFail::Ended => bad(
+            lines.len(),
+            last_length(lines).saturating_add(1),
+            BadKind::EndMissing,
+        ),
+        FileFail::NoMemory => ReadFail::NoMemory,
+    }
+}
+
+// The system that lines spell, or their first fault.
+fn read_lines(alloc: Global, lines: &[&[u8]]) -> Result<System, ReadFail>
+    requires { length lines.now ≤ 65537 }
+    ensures { Answers system_read result (read_lines (map (λ l. l.now) lines.now)) }
+{
+    match system_of(alloc, lines) {
+        Ok(system) => Ok(system),
+        Err(fail) => Err(file_fault(lines, fail)),
+    }
+}
+
+/// The system that the bytes of a file spell, or their first fault.
+#[tactic(auto, unfolding(crate::specs::Reading::read))]
+pub fn read_system(alloc: Global, bytes: &[u8]) -> Result<System, ReadFail>
+    ensures { Answers system_read result (read bytes.now) }
+{
+    if MAX_BYTES < bytes.len() {
+        return Err(bad(1, 1, BadKind::TooLong));
+    }
+    match first_not_allowed(bytes) {
+        Some((line, column)) => Err(bad(line, column, BadKind::NotAscii)),
+        None => {
+            let lines = lines_of(alloc, bytes)?;
+            read_lines(alloc, lines.as_slice())
+        }
+    }
+}
