@@ -7,16 +7,17 @@ use Rattle.lie_math.specs.FiniteSum as finite
 use Rattle.lie_math.specs.FiniteSumLaws.{same_list}
 use Rattle.lie_math.specs.Natural.{exponents}
 use Rattle.lie_math.specs.SortedSum.{normal, add_at}
-use Rattle.lie_math.specs.Monomial.{Monomial, powers, monomial_of, IsMonomial}
+use Rattle.lie_math.specs.Monomial.{Monomial, powers, monomial_of}
+use Rattle.lie_math.specs.FiniteSum.{IsCanonical}
 use Rattle.lie_ring.specs.Entries.{entries}
 use Rattle.lie_app.specs.declared.sum.Term.{Term}
 use Rattle.lie_app.specs.Grammar.{entry_of}
 use Rattle.lie_app.specs.Reading.{power_pairs}
 
-pub power_pairs-IsMonomial : (a b : ℕ) → IsMonomial (power_pairs 0 a ++ power_pairs 1 b)
-power_pairs-IsMonomial a b = go (a == 0) (b == 0) refl refl
+pub power_pairs-IsCanonical : (a b : ℕ) → IsCanonical powers (power_pairs 0 a ++ power_pairs 1 b)
+power_pairs-IsCanonical a b = go (a == 0) (b == 0) refl refl
   where
-    go : (s t : Bool) → (a == 0) ≡ s → (b == 0) ≡ t → IsMonomial ((if s then [] else (0, a) ∷ []) ++ (if t then [] else (1, b) ∷ []))
+    go : (s t : Bool) → (a == 0) ≡ s → (b == 0) ≡ t → IsCanonical powers ((if s then [] else (0, a) ∷ []) ++ (if t then [] else (1, b) ∷ []))
     go true true e f = tt
     go true false e f = rw f tt
     go false true e f = rw e tt

@@ -1,23 +1,22 @@
--- The determining equations as a finite list, and that they may be divided by a term that is not 0.
+-- The determining equations as a finite list, in which each may be divided by what is not 0.
 use Rattle.std.specs.List.{Any}
 use Rattle.std.specs.Prelude.{◌≡◌, ℕ, zero, suc, ◌<◌, Bool, true, false, cond, ◌||◌, List, [], ◌∷◌, ◌++◌, ◌↔◌, length, map, All, slice_index_or, ℤ, pos, ◌⊎◌}
 use Rattle.std.proofs.Common.{refl, sym, ap, ap₂, subst, ◌∙◌, arith, true≢false, inl, inr}
 use mathlib.Core.Path.{fun_ext}
-use Rattle.lie_math.proofs.Monomial as monomials
 use Rattle.lie_math.specs.FiniteSumLaws as finite_laws
 use Rattle.lie_math.proofs.FiniteSum as finite_proofs
 use Rattle.lie_math.specs.Counts.{Derivative}
 use Rattle.lie_math.specs.FiniteSumLaws.{value-none, value-term, plus_idl, term_additive}
-use Rattle.lie_math.specs.LinearForm.{forms, LinearForm, no_form, ◌+ᶠ◌, form_term, form_over, each_coefficient, apply}
-use Rattle.lie_math.specs.Monomial.{Monomial, unit}
-use Rattle.lie_math.specs.Polynomial.{term, terms, WholePolynomial, coefficient, 0ᴾ, ◌+ᴾ◌, polynomials, ◌*ᴾ◌}
-use Rattle.lie_math.specs.PolynomialRing.{one-*ᴾ, polynomial_ring}
+use Rattle.lie_math.specs.LinearForm.{forms, LinearForm, no_form, ◌+ᶠ◌, form_term, form_over, each_coefficient, IsMultipleOf, apply}
+use Rattle.lie_math.specs.Monomial.{Monomial}
+use Rattle.lie_math.specs.Polynomial.{term, terms, constant, WholePolynomial, 0ᴾ, ◌+ᴾ◌, polynomials}
+use Rattle.lie_math.specs.PolynomialRing.{one-*ᴾ}
 use Rattle.lie_math.specs.SortedSum.{sum_of_entries}
-use Rattle.lie_math.proofs.LinearForm.{apply_none, apply_times}
-use Rattle.lie_math.proofs.Ring.{times_nil}
-use Rattle.lie_math.proofs.ZeroDivisors.{no_zero_divisors}
+use Rattle.lie_math.proofs.LinearForm.{apply_none}
+use Rattle.lie_math.proofs.Limits.{one_apart}
+use Rattle.lie_math.proofs.Cancellation.{multiple_says}
 use Rattle.lie_geometry.specs.Coordinates.{Space}
-use Rattle.lie_geometry.specs.DeterminingEquations.{symbolic_reduced, restrict, part, determining_equation, IsTermTimes, IsDetermining}
+use Rattle.lie_geometry.specs.DeterminingEquations.{symbolic_reduced, restrict, part, determining_equation, IsDetermining}
 use Rattle.lie_geometry.specs.Prolongation.{is_in_z}
 use Rattle.lie_geometry.specs.SolvedEquations.{SolvedEquation}
 use Rattle.lie_geometry.specs.SymbolicProlongation.{symbolic_application}
@@ -126,12 +125,16 @@ listing S rs [] = []
 listing S rs (r ∷ ss) = equations S rs r ++ listing S rs ss
 
 -- an equation is itself times 1
-itself_times : (E : LinearForm) → IsTermTimes E E
-itself_times E = (unit, pos 1, (λ e. absurd (omega (arith, ap lib.IntN.nat_abs e))), sym (ap (λ f. form_over f E) (fun_ext (λ d. fun_ext (λ a. ap (form_term d) (one-*ᴾ a)))) ∙ finite_laws.sum_of_terms forms E))
+itself_times : (E : LinearForm) → IsMultipleOf E E
+itself_times E = record {
+  factor = constant (pos 1);
+  apart = one_apart;
+  is = sym (ap (λ f. form_over f E) (fun_ext (λ d. fun_ext (λ a. ap (form_term d) (one-*ᴾ a)))) ∙ finite_laws.sum_of_terms forms E);
+}
 
 module _ (S : Space) (rs : List SolvedEquation) where
   abbrev At : SolvedEquation → Monomial → LinearForm → Type 0
-  At r μ G = IsTermTimes (determining_equation S rs r μ) G
+  At r μ G = IsMultipleOf (determining_equation S rs r μ) G
 
   listed : (ss : List SolvedEquation) → All (λ r. (μ : Monomial) → (determining_equation S rs r μ ≡ no_form) ⊎ Any (At r μ) (listing S rs ss)) ss
   listed [] k d g μ = absurd (omega arith)
@@ -166,24 +169,12 @@ module _ (S : Space) (rs : List SolvedEquation) where
   pub listing_is : IsDetermining S rs (listing S rs rs)
   listing_is = record { all = listed rs; alone = from_equations rs }
 
--- ---- division by a term
-term_apart : (m : Monomial) (c : ℤ) → ¬ (c ≡ pos 0) → ¬ (term m c ≡ 0ᴾ)
-term_apart m c h e =
-    h (sym (value-term terms m c m ∙ ap (λ t. cond t c (pos 0)) (monomials.same_monomial m)) ∙ ap (λ p. coefficient p m) e ∙ value-none terms m)
-
--- an equation and what is left of it say the same
-divided_says : (F : ℕ → WholePolynomial) (E G : LinearForm) → IsTermTimes E G → apply F E ≡ 0ᴾ ↔ apply F G ≡ 0ᴾ
-divided_says F E G t = (
-  λ z. no_zero_divisors (term t.0 t.1) (apply F G) (term_apart t.0 t.1 t.2) (sym (ap (apply F) t.3 ∙ apply_times F (term t.0 t.1) G) ∙ z),
-  λ z. ap (apply F) t.3 ∙ apply_times F (term t.0 t.1) G ∙ ap (λ x. term t.0 t.1 *ᴾ x) z ∙ times_nil polynomial_ring (term t.0 t.1),
-)
-
 -- functions solve the listed equations exactly if they solve all
 pub listed_says : (S : Space) (rs : List SolvedEquation) (es : List LinearForm) (F : ℕ → WholePolynomial) → IsDetermining S rs es → All (λ E. apply F E ≡ 0ᴾ) es ↔ All (λ r. (μ : Monomial) → apply F (determining_equation S rs r μ) ≡ 0ᴾ) rs
 listed_says S rs es F is = (
   λ h k d g μ. elim (is.all k d g μ) [
     | inl e ↦ ap (apply F) e ∙ apply_none F
-    | inr f ↦ (divided_says F _ f.1 f.4).1 (subst (λ G. apply F G ≡ 0ᴾ) f.3 (h f.0 f.1 f.2))
+    | inr f ↦ (multiple_says F _ f.1 f.4).1 (subst (λ G. apply F G ≡ 0ᴾ) f.3 (h f.0 f.1 f.2))
   ],
-  λ h k d g. let s = is.alone k d g in (divided_says F _ (slice_index_or es k d) s.4.1).0 (subst (λ r. apply F (determining_equation S rs r s.4.0) ≡ 0ᴾ) s.3 (h s.0 s.1 s.2 s.4.0)),
+  λ h k d g. let s = is.alone k d g in (multiple_says F _ (slice_index_or es k d) s.4.1).0 (subst (λ r. apply F (determining_equation S rs r s.4.0) ≡ 0ᴾ) s.3 (h s.0 s.1 s.2 s.4.0)),
 )

@@ -7,7 +7,8 @@ use Rattle.lie_math.specs.FiniteSumLaws.{plus_idl, plus_comm}
 use Rattle.lie_math.specs.Polynomial.{terms, WholePolynomial, 0ᴾ, ◌+ᴾ◌, polynomials, ◌*ᴾ◌, constant, variable, negᴾ}
 use Rattle.lie_math.specs.PolynomialRing.{+ᴾ-*ᴾ, *ᴾ-dist, *ᴾ_assoc, one-*ᴾ, polynomial_ring}
 use Rattle.lie_math.proofs.Ring.{plus_idr, times_nil, nil_times}
-use Rattle.lie_geometry.specs.SolvedEquations.{SolvedEquation, difference, is_lead, IsSolved, replacement, reduced, LiesInIdeal, HasMultipleInIdeal}
+use Rattle.lie_geometry.specs.SolvedEquations.{SolvedEquation, difference, is_lead, IsSolved, replacement, reduced}
+use Rattle.lie_geometry.specs.InvarianceLaws.{LiesInIdeal, HasMultipleInIdeal}
 use Rattle.lie_geometry.proofs.AbstractReduction.{combined, InIdeal, in_sum, in_multiple, ideal-0ᴾ, in_one, in_same}
 use Rattle.lie_geometry.proofs.Booleans.{or_left, or_right}
 use Rattle.lie_geometry.proofs.Ideals.{HaveDistinctLeads, distinct_leads, multiplier, Δ, multiple_of_reduced, reduced_of_multiple}

@@ -1,10 +1,10 @@
 -- The determining equations: the invariance condition of the field whose components are the unknown functions 1, 2 and so on of all z, monomial by monomial in the jets. A form has jet polynomials as its coefficients.
-use Rattle.std.specs.Prelude.{◌≡◌, ℕ, suc, ◌+◌, Bool, cond, not, List, map, All, ◌⊎◌, ℤ, pos}
+use Rattle.std.specs.Prelude.{◌≡◌, ℕ, suc, ◌+◌, Bool, cond, not, List, map, All, ◌⊎◌, pos}
 use Rattle.std.specs.List.{Any, range_with_len}
 use Rattle.std.specs.Ordering.{eq_by_cmp}
 use Rattle.lie_math.specs.FiniteSum as finite
 use Rattle.lie_math.specs.FiniteSumLaws as finite_laws
-use Rattle.lie_math.specs.LinearForm.{forms, LinearForm, no_form, each_coefficient, times_form}
+use Rattle.lie_math.specs.LinearForm.{forms, LinearForm, no_form, each_coefficient, IsMultipleOf}
 use Rattle.lie_math.specs.LinearSystem.{LinearSystem}
 use Rattle.lie_math.specs.Monomial.{powers, Monomial, monomial_cmp}
 use Rattle.lie_math.specs.Natural.{maxima}
@@ -33,14 +33,10 @@ abbrev pub determining_equation : Space → List SolvedEquation → SolvedEquati
 determining_equation S equations equation μ = each_coefficient (part (is_in_z S) μ) (symbolic_reduced equations (symbolic_application S equations equation))
 
 -- ---- the list of them
--- E is a term that is not 0, times G
-abbrev pub IsTermTimes : LinearForm → LinearForm → Type 0
-IsTermTimes E G = (m : Monomial) × (c : ℤ) × (¬ (c ≡ pos 0)) × (E ≡ times_form (term m c) G)
-
--- the list has each determining equation that is not empty, divided by a term, and nothing else
+-- the list has each determining equation that is not empty, or what a polynomial is to be multiplied with to give it, and nothing else
 pub record IsDetermining (S : Space) (equations : List SolvedEquation) (forms : List LinearForm) : Type 0 where
-  pub all : All (λ equation. (μ : Monomial) → (determining_equation S equations equation μ ≡ no_form) ⊎ Any (λ G. IsTermTimes (determining_equation S equations equation μ) G) forms) equations
-  pub alone : All (λ G. Any (λ equation. (μ : Monomial) × IsTermTimes (determining_equation S equations equation μ) G) equations) forms
+  pub all : All (λ equation. (μ : Monomial) → (determining_equation S equations equation μ ≡ no_form) ⊎ Any (λ G. IsMultipleOf (determining_equation S equations equation μ) G) forms) equations
+  pub alone : All (λ G. Any (λ equation. (μ : Monomial) × IsMultipleOf (determining_equation S equations equation μ) G) equations) forms
 
 -- ---- the system of them: the unknowns 1 to p + q, each of all z, one for each component
 abbrev pub determining_system : Space → List LinearForm → LinearSystem

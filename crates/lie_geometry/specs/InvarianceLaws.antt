@@ -3,7 +3,7 @@ use Rattle.std.specs.Prelude.{◌≡◌, ℕ, ◌+◌, ◌<◌, Bool, List, [], 
 use Rattle.lie_math.specs.LinearForm.{LinearForm, apply}
 use Rattle.lie_math.specs.LinearSystem.{Gives}
 use Rattle.lie_math.specs.Monomial.{Monomial}
-use Rattle.lie_math.specs.Polynomial.{WholePolynomial, 0ᴾ, ◌*ᴾ◌, constant}
+use Rattle.lie_math.specs.Polynomial.{WholePolynomial, 0ᴾ, ◌+ᴾ◌, ◌*ᴾ◌, constant}
 use Rattle.lie_math.specs.Variables.{IsIn}
 use Rattle.lie_math.specs.VectorField.{VectorField, component, IsSameField}
 use Rattle.lie_geometry.specs.Commutator.{commutator}
@@ -13,12 +13,24 @@ use Rattle.lie_geometry.specs.DeterminingEquations.{part, determining_equation, 
 use Rattle.lie_geometry.specs.FirstOrder.{one_of_each, first_order_equation, first_order_condition}
 use Rattle.lie_geometry.specs.Invariance.{AreInvariant, IsInvariant, IsFieldOn}
 use Rattle.lie_geometry.specs.Prolongation.{InZ}
-use Rattle.lie_geometry.specs.SolvedEquations.{SolvedEquation, IsSolved, HaveHighLeads, reduced, HasMultipleInIdeal}
+use Rattle.lie_geometry.specs.SolvedEquations.{SolvedEquation, IsSolved, HaveHighLeads, difference, reduced}
 use Rattle.lie_geometry.specs.SymbolicProlongation.{field_of}
 
+-- ---- reduction and the ideal of the equations
+-- P is a sum of multiples of the differences
+abbrev pub LiesInIdeal : List SolvedEquation → WholePolynomial → Type 0
+LiesInIdeal [] P = P ≡ 0ᴾ
+LiesInIdeal (equation ∷ equations) P = (p : WholePolynomial) × (Q : WholePolynomial) × LiesInIdeal equations Q × (P ≡ p *ᴾ difference equation +ᴾ Q)
+
+-- a multiple of P by a number that is not 0 is such a sum
+abbrev pub HasMultipleInIdeal : List SolvedEquation → WholePolynomial → Type 0
+HasMultipleInIdeal equations P = (n : ℤ) × (¬ (n ≡ pos 0)) × LiesInIdeal equations (constant n *ᴾ P)
+
+-- what reduces to 0 is what has a multiple in the ideal
 abbrev pub ReducedIsInIdeal : Type 0
 ReducedIsInIdeal = (equations : List SolvedEquation) → IsSolved equations → (P : WholePolynomial) → reduced equations P ≡ 0ᴾ ↔ HasMultipleInIdeal equations P
 
+-- ---- invariance
 -- components with multiples in common, by numbers that are not 0, are invariant together
 abbrev pub MultiplesAreInvariant : Type 0
 MultiplesAreInvariant = (S : Space) → IsSpace S → (equations : List SolvedEquation) → IsSolved equations → (m n : ℤ) → ¬ (m ≡ pos 0) → ¬ (n ≡ pos 0) →

@@ -4,7 +4,7 @@ use Rattle.std.specs.List.{list_any}
 use Rattle.lie_math.specs.Evaluation.{to_power, monomial_value}
 use Rattle.lie_math.specs.Integer.{integer_algebra}
 use Rattle.lie_math.specs.Monomial.{Monomial, exponent}
-use Rattle.lie_math.specs.Polynomial.{WholePolynomial, 0ᴾ, ◌+ᴾ◌, over_terms, ◌*ᴾ◌, constant, variable, negᴾ}
+use Rattle.lie_math.specs.Polynomial.{WholePolynomial, ◌+ᴾ◌, over_terms, ◌*ᴾ◌, constant, variable, negᴾ}
 use Rattle.lie_math.specs.PolynomialRing.{polynomial_algebra}
 use Rattle.lie_math.specs.Powers.{degree_in}
 use Rattle.lie_math.specs.Variables.{IsIn}
@@ -49,13 +49,3 @@ reduced_by equations e P = over_terms (λ m a. constant (a *ℤ missing_powers e
 -- each lead replaced, and each term multiplied so that all have the same power of each factor
 abbrev pub reduced : List SolvedEquation → WholePolynomial → WholePolynomial
 reduced equations P = reduced_by equations (λ w. degree_in w P) P
-
--- ---- the ideal of the equations
--- P is a sum of multiples of the differences
-abbrev pub LiesInIdeal : List SolvedEquation → WholePolynomial → Type 0
-LiesInIdeal [] P = P ≡ 0ᴾ
-LiesInIdeal (equation ∷ equations) P = (p : WholePolynomial) × (Q : WholePolynomial) × LiesInIdeal equations Q × (P ≡ p *ᴾ difference equation +ᴾ Q)
-
--- a multiple of P by a number that is not 0 is such a sum
-abbrev pub HasMultipleInIdeal : List SolvedEquation → WholePolynomial → Type 0
-HasMultipleInIdeal equations P = (n : ℤ) × (¬ (n ≡ pos 0)) × LiesInIdeal equations (constant n *ᴾ P)

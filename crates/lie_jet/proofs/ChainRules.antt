@@ -1,27 +1,26 @@
 -- The derivative of a term is the sum over its powers: the chain rule, power by power.
-use Rattle.std.specs.Prelude.{◌≡◌, ℕ, zero, suc, ◌+◌, ◌<◌, ◌≤◌, Bool, true, false, cond, not, T, List, [], ◌∷◌, max, ℤ, pos, ◌*ℤ◌, ltb}
-use Rattle.std.proofs.Common.{refl, sym, ap, ap₂, subst, ◌∙◌, arith, is_lt, is_eq, Equal, true≢false, ltb-false, lt-ltb}
+use Rattle.std.specs.Prelude.{◌≡◌, ℕ, zero, suc, ◌+◌, ◌<◌, ◌≤◌, Bool, true, false, cond, List, [], ◌∷◌, max, ℤ, pos, ◌*ℤ◌}
+use Rattle.std.proofs.Common.{refl, sym, ap, ap₂, subst, ◌∙◌, arith, is_eq, Equal, true≢false, ltb-false}
 use Rattle.std.specs.Ordering.{eq_by_cmp, nat_cmp}
 use Rattle.std.specs.Cmp.{tied_itself, nat_cmp_total}
 use lib.IntN.{*ℤ-zero}
-use Rattle.lie_math.specs.Canonical.{first, second}
+use Rattle.lie_math.specs.Canonical.{value_at-below}
 use Rattle.lie_math.specs.Derivation.{sum_of, numbers_below, is_below, IsDerivation}
-use Rattle.lie_math.specs.FiniteSum as finite
 use Rattle.lie_math.specs.FiniteSumLaws as finite_laws
 use Rattle.lie_math.proofs.FiniteSum as finite_proofs
-use Rattle.lie_math.specs.Monomial.{Monomial, exponent, monomial_cmp, powers, IsMonomial}
+use Rattle.lie_math.specs.Monomial.{Monomial, exponent, monomial_cmp, powers}
+use Rattle.lie_math.specs.FiniteSum.{IsCanonical}
 use Rattle.lie_math.specs.Natural.{exponents}
 use Rattle.lie_math.specs.PartialDerivative.{partial, lower}
-use Rattle.lie_math.specs.Polynomial.{WholePolynomial, polynomials, terms, term, 0ᴾ, ◌+ᴾ◌, ◌*ᴾ◌, variable, coefficient}
-use Rattle.lie_math.specs.PolynomialRing.{polynomial_ring, *ᴾ_comm}
-use Rattle.lie_math.specs.SortedSum.{sum_of_entries, value_at, below_all}
+use Rattle.lie_math.specs.Polynomial.{WholePolynomial, polynomials, terms, term, 0ᴾ, ◌+ᴾ◌, ◌*ᴾ◌, variable}
+use Rattle.lie_math.specs.PolynomialRing.{polynomial_ring}
+use Rattle.lie_math.specs.SortedSum.{sum_of_entries, value_at}
 use Rattle.lie_math.specs.Variables.{IsIn}
 use Rattle.lie_math.proofs.ChainRule.{chain_rule_below}
-use Rattle.lie_math.proofs.Merge.{IsCanonical, canonical_below, canonical_tail}
+use Rattle.lie_math.proofs.CanonicalLists.{canonical_below, canonical_tail}
 use Rattle.lie_math.proofs.PartialDerivative.{partial-term}
 use Rattle.lie_math.proofs.Ring.{plus_idr, times_nil}
 use Rattle.lie_math.proofs.SumOf.{sum_of-plus, sum_of-0ᴾ}
-use Rattle.lie_math.specs.Canonical.{value_at-below}
 use Rattle.lie_geometry.proofs.SymbolicProlongation.{sum_of-same}
 
 -- what the power of one variable gives
@@ -70,7 +69,7 @@ one_alone (suc n) v x h = go (λ k. one_alone n v x k) (eq_by_cmp nat_cmp n v) r
     go ih false e = finite_laws.plus_idl terms _ ∙ ih (less (λ q. true≢false (sym (itself n v q) ∙ e)))
 
 module _ (g : ℕ → ℕ → WholePolynomial) (none : (w : ℕ) → g w 0 ≡ 0ᴾ) where
-  step : (p : ℕ × ℕ) (ps : List (ℕ × ℕ)) → IsMonomial (p ∷ ps) → (w : ℕ) → g w (at w (p ∷ ps)) ≡ cond (eq_by_cmp nat_cmp w p.0) (g p.0 p.1) 0ᴾ +ᴾ g w (at w ps)
+  step : (p : ℕ × ℕ) (ps : List (ℕ × ℕ)) → IsCanonical powers (p ∷ ps) → (w : ℕ) → g w (at w (p ∷ ps)) ≡ cond (eq_by_cmp nat_cmp w p.0) (g p.0 p.1) 0ᴾ +ᴾ g w (at w ps)
   step p ps h w = go (eq_by_cmp nat_cmp w p.0) refl
     where
       gone : w ≡ p.0 → at w ps ≡ 0
@@ -86,7 +85,7 @@ module _ (g : ℕ → ℕ → WholePolynomial) (none : (w : ℕ) → g w 0 ≡ 0
       go true e = let q = same_number w p.0 e in ap₂ g q (kept p.1 (gone q)) ∙ sym (ap (λ r. g p.0 p.1 +ᴾ r) (ap (g w) (gone q) ∙ none w) ∙ plus_idr polynomial_ring _)
       go false e = ap (g w) (plain (at w ps)) ∙ sym (finite_laws.plus_idl terms _)
 
-  over_powers : (n : ℕ) (ps : List (ℕ × ℕ)) → IsMonomial ps → AllBelow n ps → sum_of (numbers_below n) (λ w. g w (at w ps)) ≡ sum_of_entries polynomials g ps
+  over_powers : (n : ℕ) (ps : List (ℕ × ℕ)) → IsCanonical powers ps → AllBelow n ps → sum_of (numbers_below n) (λ w. g w (at w ps)) ≡ sum_of_entries polynomials g ps
   over_powers n [] h b = sum_of-same n (λ w. g w (at w [])) (λ w. 0ᴾ) (λ w _. none w) ∙ sum_of-0ᴾ (numbers_below n)
   over_powers n (p ∷ ps) h b =
       sum_of-same n (λ w. g w (at w (p ∷ ps))) (λ w. cond (eq_by_cmp nat_cmp w p.0) (g p.0 p.1) 0ᴾ +ᴾ g w (at w ps)) (λ w _. step p ps h w)

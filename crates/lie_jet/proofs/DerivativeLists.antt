@@ -1,5 +1,5 @@
 -- Derivatives of unknowns as code, and lists of them with coefficients.
-use Rattle.std.specs.Prelude.{◌≡◌, ℕ, zero, suc, ◌+◌, ◌<◌, ◌≤◌, cond, true, false, ℤ, List, [], ◌∷◌, ◌++◌, length, map, take, drop, slice_set, slice_index, OnOk, IfErr}
+use Rattle.std.specs.Prelude.{◌≡◌, ℕ, zero, suc, ◌+◌, ◌<◌, ◌≤◌, true, false, ℤ, List, [], ◌∷◌, ◌++◌, length, map, take, drop, slice_set, slice_index, OnOk, IfErr}
 use Rattle.std.specs.List.{AllByRecursion as Every}
 use Rattle.std.proofs.Common.{Result, Ok, Err, refl, sym, ap, ap₂, subst, ◌∙◌, arith, get_or, append_assoc, Ordering, Less, Equal, Greater}
 use Rattle.std.specs.Ordering.{nat_cmp, ordering_then}
@@ -11,13 +11,13 @@ use Rattle.lie_math.specs.Counts.{order, raise, trimmed, Derivative, derivative_
 use Rattle.lie_math.specs.LinearForm.{forms, ◌+ᶠ◌, form_term}
 use Rattle.lie_math.specs.FiniteSum as finite
 use Rattle.lie_math.specs.FiniteSumLaws.{plus_comm, value-of, list-of, same_list}
-use Rattle.lie_math.specs.FiniteSum.{list_is_empty}
+use Rattle.lie_math.specs.FiniteSum.{list_is_empty, IsCanonical}
 use Rattle.lie_math.specs.Canonical.{canonical-add_at, normal-canonical}
 use Rattle.lie_math.specs.Monomial.{Monomial}
 use Rattle.lie_math.specs.DerivativeOrder.{derivative_same}
 use Rattle.lie_math.specs.Polynomial.{WholePolynomial, terms, ◌+ᴾ◌}
 use Rattle.lie_math.proofs.FiniteSum.{entries_of}
-use Rattle.lie_math.proofs.Merge.{IsCanonical, of-cons}
+use Rattle.lie_math.proofs.CanonicalLists.{of-cons}
 use Rattle.lie_math.specs.SortedSum.{add_at, put_new, value_at}
 use Rattle.lie_math.proofs.Counts.{order_trimmed, trimmed_raise, trimmed_cmp}
 use Rattle.lie_jet.specs.Derivatives.{derivative_of, derivative_terms, GoesTo, GoesNoFurther, IsFirst, IsReplaced, HoldsAt}

@@ -1,10 +1,10 @@
 -- Jets derived once more, and what variables become.
-use Rattle.std.specs.Prelude.{◌≡◌, ℕ, zero, suc, ◌+◌, ◌<◌, ◌≤◌, ◌-◌, List, [], ◌∷◌, length, take, drop, slice_set, slice_index, pos, eqb, cond}
-use Rattle.std.proofs.Common.{refl, sym, ap, ap₂, subst, ◌∙◌, arith, true, false, Bool, ◌⊎◌, inl, inr}
+use Rattle.std.specs.Prelude.{◌≡◌, ℕ, zero, suc, ◌+◌, ◌<◌, ◌≤◌, List, [], ◌∷◌, length, take, drop, slice_set, slice_index, pos}
+use Rattle.std.proofs.Common.{sym, ap, subst, ◌∙◌, arith, ◌⊎◌, inl, inr}
 use Rattle.std.proofs.lemmas.List.{drop-set-lt, length-set}
 use Rattle.lie_math.specs.Counts.{order, raise}
 use Rattle.lie_math.specs.PartialDerivative.{partial}
-use Rattle.lie_math.specs.Polynomial.{WholePolynomial, 0ᴾ, constant, variable}
+use Rattle.lie_math.specs.Polynomial.{0ᴾ, constant, variable}
 use Rattle.lie_math.proofs.PartialDerivation.{partial-itself, partial-other}
 use Rattle.lie_math.proofs.Counts.{order_raise}
 use Rattle.lie_geometry.specs.Coordinates.{Space, Coordinate, IsCoordinate, order_of, jet, number, coordinate, coordinates_up_to}

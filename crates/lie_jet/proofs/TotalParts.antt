@@ -1,14 +1,14 @@
 -- The total derivative of a term, power by power, and of a polynomial, term by term: no part has a negative coefficient where the term has none, so each part is covered by the whole.
-use Rattle.std.specs.Prelude.{◌≡◌, ℕ, zero, suc, ◌+◌, ◌<◌, ◌≤◌, Bool, true, false, List, [], ◌∷◌, ◌++◌, length, take, eqb, ltb, T, ◌&&◌, OnOk, IfOk, Result, Ok, Err, Option, Some, None, ℤ, pos, ◌*ℤ◌, unsigned_abs}
+use Rattle.std.specs.Prelude.{◌≡◌, ℕ, zero, suc, ◌+◌, ◌<◌, ◌≤◌, Bool, true, false, List, [], ◌∷◌, ◌++◌, length, take, eqb, ltb, T, ◌&&◌, IfOk, Result, Ok, Err, Option, Some, None, ℤ, pos, ◌*ℤ◌, unsigned_abs}
 use Rattle.std.specs.List.{AllByRecursion as Every}
-use Rattle.std.proofs.Common.{refl, sym, ap, ap₂, subst, ◌∙◌, arith, get_or, eqb-true, eq-eqb, true≢false, ltb-true, ltb-false, le-ltb}
+use Rattle.std.proofs.Common.{refl, sym, ap, subst, ◌∙◌, arith, get_or, eqb-true, eq-eqb, true≢false, ltb-true, ltb-false, le-ltb}
 use Rattle.std.proofs.lemmas.List.{take_more}
 use Rattle.lie_math.specs.Canonical.{sum_of_entries-append}
 use Rattle.lie_math.specs.FiniteSumLaws.{of_list, list-of}
 use Rattle.lie_math.specs.Limits.{absolute, absolutes}
 use Rattle.lie_math.specs.Monomial.{Monomial, powers, exponent, single, unit}
 use Rattle.lie_math.specs.PartialDerivative.{lower}
-use Rattle.lie_math.specs.Polynomial.{WholePolynomial, polynomials, terms, term, polynomial_of, 0ᴾ, ◌+ᴾ◌, ◌*ᴾ◌, variable}
+use Rattle.lie_math.specs.Polynomial.{WholePolynomial, polynomials, terms, term, polynomial_of, ◌+ᴾ◌, ◌*ᴾ◌, variable}
 use Rattle.lie_math.specs.PolynomialRing.{polynomial_ring, 0ᴾ-*ᴾ, polynomial_of-none, term_times_term}
 use Rattle.lie_math.specs.SortedSum.{sum_of_entries}
 use Rattle.lie_math.specs.Derivation.{is_below}
@@ -19,7 +19,7 @@ use Rattle.lie_math.proofs.FiniteSum.{entries_of}
 use Rattle.lie_math.proofs.Kept.{pairs_in, terms_in, kept-terms}
 use Rattle.lie_math.proofs.Variables.{kept_in}
 use Rattle.lie_math.proofs.Limits.{IsCovered, IsNonNegative, nonneg_sum, nonneg_none, nonneg_absolutes, covered_first, covered_second, covered_trans, term_is}
-use Rattle.lie_math.proofs.Merge.{of-cons}
+use Rattle.lie_math.proofs.CanonicalLists.{of-cons}
 use Rattle.lie_math.proofs.Ring.{plus_idr}
 use Rattle.lie_geometry.specs.Coordinates.{Space, Coordinate, independent, jet, IsCoordinate, number, coordinate}
 use Rattle.lie_geometry.specs.Prolongation.{total_derivative}

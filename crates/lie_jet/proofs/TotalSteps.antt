@@ -1,22 +1,24 @@
 -- The steps of a total derivative: one product, one power, one term.
-use Rattle.std.specs.Prelude.{◌≡◌, ℕ, zero, suc, ◌+◌, ◌<◌, ◌≤◌, ◌^◌, List, [], ◌∷◌, ◌++◌, length, take, ℤ, pos, ◌*ℤ◌, unsigned_abs, OnOk, IfErr}
-use Rattle.std.proofs.Common.{Result, Ok, Err, refl, sym, ap, ap₂, subst, ◌∙◌, arith, true, false, Bool}
+use Rattle.std.specs.Prelude.{◌≡◌, ℕ, ◌<◌, ◌≤◌, ◌^◌, List, [], ◌∷◌, ◌++◌, ℤ, pos, ◌*ℤ◌, unsigned_abs, OnOk, IfErr}
+use Rattle.std.proofs.Common.{Result, Ok, Err, sym, ap, ap₂, subst, ◌∙◌, arith}
 use Rattle.std.proofs.lemmas.Int.{unsigned_abs-mul}
 use borrow.Author.Differences.{ints}
 use lib.IntN.{*ℤ_comm}
 use Rattle.lie_math.specs.FiniteSum as finite
 use Rattle.lie_math.specs.FiniteSumLaws.{same_list, list-of}
-use Rattle.lie_math.specs.Limits.{absolutes, HasWideCoefficient, HasHighExponent}
-use Rattle.lie_math.specs.Monomial.{Monomial, powers, ◌·◌, exponent, single, unit}
+use Rattle.lie_math.specs.Limits.{absolutes}
+use Rattle.lie_ring.specs.Limits.{HasWideCoefficient}
+use Rattle.lie_math.specs.Monomial.{Monomial, powers, ◌·◌, single}
 use Rattle.lie_math.specs.MonomialOrder.{·_comm}
 use Rattle.lie_math.specs.Polynomial.{WholePolynomial, terms, term, 0ᴾ, polynomial_of, ◌+ᴾ◌, ◌*ᴾ◌}
 use Rattle.lie_math.specs.PolynomialRing.{polynomial_ring, term_times_term, 0ᴾ-*ᴾ}
-use Rattle.lie_math.proofs.Merge.{of-append}
+use Rattle.lie_math.proofs.CanonicalLists.{of-append}
 use Rattle.lie_math.proofs.Ring.{plus_idr}
 use Rattle.lie_ring.specs.Entries.{entries}
 use Rattle.lie_poly.proofs.TermLists.{entries-append}
 use Rattle.lie_math.proofs.Integer.{no_zero_divisors_ℤ}
-use Rattle.lie_math.proofs.Limits.{wide_term, IsCovered, absolutes-append, term_is}
+use Rattle.lie_math.proofs.Limits.{absolutes-append, term_is}
+use Rattle.lie_ring.proofs.Limits.{wide_term}
 use Rattle.lie_ring.specs.Causes.{IsCause, IsProductCause}
 use Rattle.lie_ring.specs.declared.failures.PastKind.TheVariants.{Coefficient, Exponent, Terms, Order, Unknowns, Width}
 use Rattle.lie_ring.specs.declared.failures.PolyFail.{PolyFail}

@@ -8,7 +8,7 @@ ghost use Rattle.lie_math.specs.SortedSum.{add_at, put_new};
 ghost use Rattle.lie_ring.specs.Causes.{IsCause};
 ghost use Rattle.lie_poly.specs.Failures.{IsStarved};
 ghost use Rattle.lie_jet.specs.Derivatives.{derivative_of, derivative_terms, GoesTo, GoesNoFurther, IsFirst, IsReplaced, HoldsAt};
-ghost use Rattle.lie_math.proofs.Merge.{IsCanonical};
+ghost use Rattle.lie_math.specs.FiniteSum.{IsCanonical};
 
 use crate::derivative::{Der, compare_derivatives};
 use crate::totals::JetPoly;
@@ -24,9 +24,10 @@ pub struct SymForm {
 }
 
 impl Model for SymForm {
-    ghost use Rattle.lie_math.specs.LinearForm.{LinearForm, form_code, forms};
+    ghost use Rattle.lie_math.specs.LinearForm.{LinearForm, forms};
+    ghost use Rattle.lie_math.specs.Codes.{form_code};
     ghost use Rattle.lie_math.specs.FiniteSum as finite;
-    ghost use Rattle.lie_math.proofs.Merge.{IsCanonical};
+    ghost use Rattle.lie_math.specs.FiniteSum.{IsCanonical};
 
     ghost Value = { LinearForm };
 

@@ -13,7 +13,8 @@ use Rattle.lie_math.specs.Polynomial.{WholePolynomial, terms, polynomial_of, coe
 use Rattle.lie_math.specs.Counts.{Derivative}
 use Rattle.lie_math.specs.Limits.{FitsNumber, HasLowExponents, IsWithinLimits, absolutes}
 use Rattle.lie_math.proofs.FiniteSum.{key, entries_of}
-use Rattle.lie_math.proofs.Merge.{IsCanonical, canonical_below, canonical_tail}
+use Rattle.lie_math.specs.FiniteSum.{IsCanonical}
+use Rattle.lie_math.proofs.CanonicalLists.{canonical_below, canonical_tail}
 use Rattle.lie_systems.specs.Triples.{Triple, triples, triples_in, triples_with}
 use Rattle.lie_systems.specs.Bulk as bulks
 use Rattle.lie_ring.specs.Causes.{IsCause}

@@ -18,7 +18,8 @@ use Rattle.lie_math.specs.LinearForm.{forms}
 use Rattle.lie_math.specs.Limits.{absolutes}
 use Rattle.lie_math.proofs.FiniteSum.{key}
 use Rattle.lie_math.proofs.Limits.{term_is, absolutes-append}
-use Rattle.lie_math.proofs.Merge.{IsCanonical, canonical_cons, of-cons}
+use Rattle.lie_math.specs.FiniteSum.{IsCanonical}
+use Rattle.lie_math.proofs.CanonicalLists.{canonical_cons, of-cons}
 use Rattle.lie_systems.specs.Triples.{Triple, triples, triples_in, triples_with, sum_of_triples}
 use Rattle.lie_systems.specs.Bulk.{absolute_triples}
 use Rattle.lie_lin.specs.Forms.{terms_at, coefficient_at, gathered, unless_zero, kept, is_in}

@@ -8,8 +8,7 @@ use Rattle.lie_math.specs.FiniteSum as finite
 use Rattle.lie_math.specs.Polynomial.{WholePolynomial, polynomial_of}
 use Rattle.lie_math.specs.Counts.{Derivative, derivative_cmp}
 use Rattle.lie_math.specs.LinearForm.{forms, LinearForm}
-use Rattle.lie_math.specs.Limits.{absolutes}
-use Rattle.lie_math.specs.Limits.{IsWithinLimits as IsPolynomialWithinLimits}
+use Rattle.lie_math.specs.Limits.{absolutes, IsWithinLimits as IsPolynomialWithinLimits}
 use Rattle.lie_systems.specs.Triples.{Triple, triples_in, triples_with, sum_of_triples}
 use Rattle.lie_systems.specs.Bulk.{absolute_triples, bulk, HasManyTriples, IsWithinLimits}
 use Rattle.lie_ring.specs.Causes.{IsCause}

@@ -1,11 +1,10 @@
 // Linear forms in the derivatives of unknown functions.
 ghost use Rattle.std.specs.Prelude.{◌≡◌, ◌++◌, ◌∷◌, [], IfOk, OnOk, MatchOption, ℤ, List};
-ghost use Rattle.lie_math.specs.LinearForm.{no_form};
+ghost use Rattle.lie_math.specs.LinearForm.{no_form, forms};
 ghost use Rattle.lie_math.specs.Monomial.{Monomial};
 ghost use Rattle.lie_systems.specs.Leads.{IsLead};
 ghost use Rattle.lie_systems.specs.Triples.{triples as triples_in_form, triples_in, triples_with};
 ghost use Rattle.lie_math.specs.FiniteSum as finite;
-ghost use Rattle.lie_math.specs.LinearForm.{forms};
 ghost use Rattle.lie_lin.specs.Forms.{coefficients_of, triples_of, AreCoefficients};
 ghost use Rattle.lie_jet.specs.Derivatives.{derivative_of};
 
@@ -24,7 +23,8 @@ pub struct LinEq {
 
 impl Model for LinEq {
     ghost use Rattle.lie_math.specs.FiniteSum as finite;
-    ghost use Rattle.lie_math.specs.LinearForm.{LinearForm, forms, form_code};
+    ghost use Rattle.lie_math.specs.LinearForm.{LinearForm, forms};
+    ghost use Rattle.lie_math.specs.Codes.{form_code};
     ghost use Rattle.lie_lin.specs.Forms.{coefficients_of, AreCoefficients};
 
     ghost Value = { LinearForm };

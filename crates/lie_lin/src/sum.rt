@@ -1,8 +1,7 @@
 // Sums of triples.
 ghost use Rattle.std.specs.Prelude.{◌≡◌, ◌≤◌, ◌<◌, ◌++◌, ◌∷◌, [], length, map, pos, unsigned_abs, IfOk, OnOk, IfErr};
 ghost use Rattle.lie_math.specs.Polynomial.{polynomial_of};
-ghost use Rattle.lie_math.specs.Limits.{absolutes};
-ghost use Rattle.lie_math.specs.Limits.{IsWithinLimits as IsPolynomialWithinLimits};
+ghost use Rattle.lie_math.specs.Limits.{absolutes, IsWithinLimits as IsPolynomialWithinLimits};
 ghost use Rattle.lie_systems.specs.Triples.{sum_of_triples};
 ghost use Rattle.lie_systems.specs.Bulk.{bulk, IsWithinLimits};
 ghost use Rattle.lie_ring.specs.Causes.{IsCause};

@@ -3,7 +3,7 @@ use Rattle.std.specs.Prelude.{◌≡◌, ℕ, zero, suc, ◌+◌, ℤ, pos, ◌*
 use Rattle.std.proofs.Common.{refl, sym, ap, ap₂, subst, ◌∙◌, arith}
 use mathlib.Core.Path.{fun_ext}
 use lib.IntN.{*ℤ_comm}
-use Rattle.lie_math.specs.Monoid.{Additive}
+use Rattle.lie_math.specs.Canonical.{Additive, middle, sum_of_entries-map}
 use Rattle.lie_math.specs.SortedSum.{sum_of_entries}
 use Rattle.lie_math.specs.Evaluation.{factors, monomial_value, to_power, value_in}
 use Rattle.lie_math.specs.FiniteSumLaws.{sum-none, sum-plus, sum-term, term_additive}
@@ -12,7 +12,6 @@ use Rattle.lie_math.specs.Polynomial.{polynomials, 0ᴾ, WholePolynomial, consta
 use Rattle.lie_math.specs.Monomial.{Monomial, powers, single, unit, ◌·◌}
 use Rattle.lie_math.specs.MonomialOrder.{·_idl}
 use Rattle.lie_math.specs.Natural.{naturals}
-use Rattle.lie_math.specs.Canonical.{middle, sum_of_entries-map}
 use Rattle.lie_math.specs.PolynomialRing.{term_times_term}
 use Rattle.lie_math.proofs.Ring.{dist_r, nil_times, times_idr, times_nil}
 use Rattle.lie_math.specs.Integer.{*ℤ-idl, integers}

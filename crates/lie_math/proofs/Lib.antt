@@ -18,7 +18,7 @@ pub mod Weighing
 pub mod Counts
 pub mod LinearForm
 pub mod Limits
-pub mod Merge
+pub mod CanonicalLists
 pub mod Dependence
 pub mod Powers
 pub mod ZeroDivisors

@@ -1,23 +1,23 @@
--- What stands within the limits, and what is past them: whatever another polynomial covers is within where that is, and past where this is.
+-- Polynomials that cover others: no coefficient of the other is greater in absolute value. What another covers is within the limits where that is.
 use Rattle.std.specs.Prelude.{◌≡◌, ℕ, suc, ◌+◌, ◌<◌, ◌≤◌, ◌^◌, Bool, true, false, cond, not, T, List, [], ◌∷◌, ◌++◌, length, ℤ, pos, negsuc, ◌+ℤ◌, unsigned_abs}
-use Rattle.std.proofs.Common.{refl, sym, ap, subst, ◌∙◌, arith, lit<, Ordering, Less, Equal, Greater, is_lt, is_eq, eqb, eqb→eq}
+use Rattle.std.proofs.Common.{refl, sym, ap, subst, ◌∙◌, arith, Ordering, Less, Equal, Greater, is_lt, is_eq, eqb, eqb→eq}
 use Rattle.std.specs.Ordering.{eq_by_cmp, ordering_reverse}
 use Rattle.std.specs.Cmp.{tied_itself}
 use borrow.Author.Differences.{ints}
 use Rattle.lie_math.specs.SortedSum.{value_at, below_all}
 use Rattle.lie_math.specs.Canonical.{value_at-head, value_at-tail, value_at-below, below_less, both, first, second}
-use Rattle.lie_math.specs.FiniteSum.{Shape}
+use Rattle.lie_math.specs.FiniteSum.{Shape, IsCanonical}
 use Rattle.lie_math.specs.FiniteSumLaws.{value-of, value-plus, value-none, plus_idl}
 use Rattle.lie_math.specs.FiniteSum as finite
 use Rattle.lie_math.specs.FiniteSumLaws as finite_laws
 use Rattle.lie_math.proofs.FiniteSum as finite_proofs
 use Rattle.lie_math.proofs.Integer.{unsigned_abs_zero}
-use Rattle.lie_math.specs.Monomial.{Monomial, monomial_cmp, exponent}
-use Rattle.lie_math.specs.MonomialOrder.{monomial_cmp_total, monomial_cmp-IsAntisymmetric}
-use Rattle.lie_math.specs.Polynomial.{WholePolynomial, coefficient, terms, term, polynomial_of, 0ᴾ, ◌+ᴾ◌}
+use Rattle.lie_math.specs.Monomial.{Monomial, monomial_cmp, unit}
+use Rattle.lie_math.specs.MonomialOrder.{monomial_cmp_total}
+use Rattle.lie_math.specs.Polynomial.{WholePolynomial, coefficient, terms, term, constant, polynomial_of, 0ᴾ, ◌+ᴾ◌}
 use Rattle.lie_math.specs.Integer.{coefficients, is_zero_int}
-use Rattle.lie_math.specs.Limits.{HasLowExponents, IsWithinLimits, HasWideCoefficient, HasHighExponent, HasManyTerms, absolutes, absolute, IsBulkOf, AreWithin}
-use Rattle.lie_math.proofs.Merge.{IsCanonical, canonical_value, canonical_below, canonical_tail, canonical_cons}
+use Rattle.lie_math.specs.Limits.{IsWithinLimits, absolutes, absolute}
+use Rattle.lie_math.proofs.CanonicalLists.{canonical_value, canonical_below, canonical_tail, canonical_cons}
 
 -- the coefficient of a list of terms
 abbrev pub at : Monomial → List (Monomial × ℤ) → ℤ
@@ -105,15 +105,6 @@ within_covered p b c w = record {
   terms = let h : length p.list ≤ length b.list = length_covered p b c in let k : length b.list ≤ 1000000 = w.terms in omega arith;
 }
 
-pub wide_covered : (p b : WholePolynomial) → IsCovered p b → HasWideCoefficient p → HasWideCoefficient b
-wide_covered p b c h = (h.0, let g : unsigned_abs (coefficient p h.0) ≤ unsigned_abs (coefficient b h.0) = c.at_most h.0 in let k : 2 ^ 127 ≤ unsigned_abs (coefficient p h.0) = h.1 in omega arith)
-
-pub high_covered : (p b : WholePolynomial) → IsCovered p b → HasHighExponent p → HasHighExponent b
-high_covered p b c h = (h.0, (λ e. h.1 (zero_covered (coefficient p h.0) (coefficient b h.0) (c.at_most h.0) e)), h.2)
-
-pub many_covered : (p b : WholePolynomial) → IsCovered p b → HasManyTerms p → HasManyTerms b
-many_covered p b c h = let g : length p.list ≤ length b.list = length_covered p b c in omega arith
-
 pub covered_trans : (p q r : WholePolynomial) → IsCovered p q → IsCovered q r → IsCovered p r
 covered_trans p q r c d = record { at_most = λ m. let h : unsigned_abs (coefficient p m) ≤ unsigned_abs (coefficient q m) = c.at_most m in let k : unsigned_abs (coefficient q m) ≤ unsigned_abs (coefficient r m) = d.at_most m in omega arith }
 
@@ -137,43 +128,18 @@ covered_second p q h k = record { at_most = λ m. let e = sum_size (coefficient 
 pub nonneg_none : IsNonNegative 0ᴾ
 nonneg_none = record { plain = λ m. value-none terms m ∙ sym (ap (λ z. pos (unsigned_abs z)) (value-none terms m)) }
 
--- ---- lists and their bulk
+-- ---- lists of absolute values
 
--- the value at a monomial is covered, and not negative
-pub record Bounds (a b : ℤ) : Type 0 where
-  pub covered : unsigned_abs a ≤ unsigned_abs b
-  pub plain : b ≡ pos (unsigned_abs b)
+nonneg_sum_at : (t : Bool) (n : ℕ) (a : ℤ) → a ≡ pos (unsigned_abs a) → cond t (pos n) (pos 0) +ℤ a ≡ pos (unsigned_abs (cond t (pos n) (pos 0) +ℤ a))
+nonneg_sum_at true n a h = omega (arith, ints)
+nonneg_sum_at false n a h = omega (arith, ints)
 
-one_more : (t : Bool) (x y a b : ℤ) → Bounds x y → Bounds a b → Bounds (cond t x (pos 0) +ℤ a) (cond t y (pos 0) +ℤ b)
-one_more true x y a b h k = record {
-  covered = let p = h.covered in let q = h.plain in let r = k.covered in let s = k.plain in omega (arith, ints);
-  plain = let q = h.plain in let s = k.plain in omega (arith, ints);
-}
-one_more false x y a b h k = record {
-  covered = let r = k.covered in let s = k.plain in omega (arith, ints);
-  plain = let s = k.plain in omega (arith, ints);
-}
-
-pub bulk_at : (xs ys : List (Monomial × ℤ)) (m : Monomial) → IsBulkOf xs ys → Bounds (at m xs) (at m ys)
-bulk_at [] [] m h = record { covered = omega arith; plain = refl }
-bulk_at [] (y ∷ ys) m h = absurd h
-bulk_at (x ∷ xs) [] m h = absurd h
-bulk_at (x ∷ xs) (y ∷ ys) m h =
-    subst (λ k. Bounds (cond (eq_by_cmp monomial_cmp m k) x.1 (pos 0) +ℤ at m xs) (at m (y ∷ ys))) (sym h.0)
-    (one_more (eq_by_cmp monomial_cmp m y.0) x.1 y.1 (at m xs) (at m ys) (record { covered = h.1; plain = h.2 }) (bulk_at xs ys m h.3))
-
-pub bulk_covers : (xs ys : List (Monomial × ℤ)) → IsBulkOf xs ys → IsCovered (polynomial_of xs) (polynomial_of ys)
-bulk_covers xs ys h = record { at_most = λ m. subst (λ z. unsigned_abs (coefficient (polynomial_of xs) m) ≤ unsigned_abs z) (sym (value-of terms ys m)) (subst (λ z. unsigned_abs z ≤ unsigned_abs (at m ys)) (sym (value-of terms xs m)) (bulk_at xs ys m h).covered) }
-
-pub bulk_nonneg : (xs ys : List (Monomial × ℤ)) → IsBulkOf xs ys → IsNonNegative (polynomial_of ys)
-bulk_nonneg xs ys h = record { plain = λ m. subst (λ z. z ≡ pos (unsigned_abs z)) (sym (value-of terms ys m)) (bulk_at xs ys m h).plain }
-
-pub bulk_absolutes : (es : List (Monomial × ℤ)) → IsBulkOf es (absolutes es)
-bulk_absolutes [] = tt
-bulk_absolutes (e ∷ es) = (refl, (let h : unsigned_abs e.1 ≤ unsigned_abs e.1 = omega arith in h), refl, bulk_absolutes es)
+nonneg_at : (es : List (Monomial × ℤ)) (m : Monomial) → at m (absolutes es) ≡ pos (unsigned_abs (at m (absolutes es)))
+nonneg_at [] m = refl
+nonneg_at (e ∷ es) m = nonneg_sum_at (eq_by_cmp monomial_cmp m e.0) (unsigned_abs e.1) (at m (absolutes es)) (nonneg_at es m)
 
 pub nonneg_absolutes : (es : List (Monomial × ℤ)) → IsNonNegative (polynomial_of (absolutes es))
-nonneg_absolutes es = bulk_nonneg es (absolutes es) (bulk_absolutes es)
+nonneg_absolutes es = record { plain = λ m. subst (λ z. z ≡ pos (unsigned_abs z)) (sym (value-of terms (absolutes es) m)) (nonneg_at es m) }
 
 pub absolutes-append : (xs ys : List (Monomial × ℤ)) → absolutes (xs ++ ys) ≡ absolutes xs ++ absolutes ys
 absolutes-append [] ys = refl
@@ -206,44 +172,17 @@ pub absolute_of : (es : List (Monomial × ℤ)) → IsCanonical terms es → abs
 unfolding absolute
 absolute_of es h = ap (λ xs. polynomial_of (absolutes xs)) (finite_laws.list-of terms es h)
 
--- ---- limits of a list
-
-at_tail : (m : Monomial) (e : Monomial × ℤ) (es : List (Monomial × ℤ)) → IsCanonical terms (e ∷ es) → at m es ≡ cond (eq_by_cmp monomial_cmp m e.0) (pos 0) (at m (e ∷ es))
-at_tail m e es h = value_at-tail monomial_cmp coefficients monomial_cmp_total monomial_cmp-IsAntisymmetric m e es (canonical_below terms e es h)
-
-fits_at : (es : List (Monomial × ℤ)) (m : Monomial) → IsCanonical terms es → AreWithin es → unsigned_abs (at m es) < 2 ^ 127
-fits_at [] m h w = lit< tt
-fits_at (e ∷ es) m h w = by_key (eq_by_cmp monomial_cmp m e.0) (at_tail m e es h) (fits_at es m (canonical_tail terms e es h) w.2)
-  where
-    by_key : (t : Bool) → at m es ≡ cond t (pos 0) (cond t e.1 (pos 0) +ℤ at m es) → unsigned_abs (at m es) < 2 ^ 127 → unsigned_abs (cond t e.1 (pos 0) +ℤ at m es) < 2 ^ 127
-    by_key true f r = subst (λ z. unsigned_abs z < 2 ^ 127) (sym (ap (λ z. e.1 +ℤ z) f ∙ lib.IntN.+ℤ_idr e.1)) w.0
-    by_key false f r = subst (λ z. unsigned_abs z < 2 ^ 127) (sym (lib.IntN.+ℤ_idl (at m es))) r
-
-low_at : (es : List (Monomial × ℤ)) (m : Monomial) → AreWithin es → ¬ (at m es ≡ pos 0) → HasLowExponents m
-low_at [] m w n = absurd (n refl)
-low_at (e ∷ es) m w n = by_key (λ f. low_at es m w.2 f) (eq_by_cmp monomial_cmp m e.0) refl
-  where
-    by_key : (¬ (at m es ≡ pos 0) → HasLowExponents m) → (t : Bool) → eq_by_cmp monomial_cmp m e.0 ≡ t → HasLowExponents m
-    by_key rest true f = subst HasLowExponents (sym (finite_proofs.key terms m e.0 f)) w.1
-    by_key rest false f = rest (λ z. n (ap (λ t. cond t e.1 (pos 0) +ℤ at m es) f ∙ lib.IntN.+ℤ_idl (at m es) ∙ z))
-
-pub limits_of : (es : List (Monomial × ℤ)) → IsCanonical terms es → AreWithin es → length es ≤ 1000000 → IsWithinLimits (polynomial_of es)
-limits_of es h w n = record {
-  coefficients = λ m. subst (λ z. unsigned_abs z < 2 ^ 127) (sym (value-of terms es m)) (fits_at es m h w);
-  exponents = λ m o. low_at es m w (λ z. o (value-of terms es m ∙ z));
-  terms = subst (λ xs. length xs ≤ 1000000) (sym (finite_laws.list-of terms es h)) n;
-}
-
 -- ---- one term
 
 pub coefficient-term : (m : Monomial) (a : ℤ) → coefficient (term m a) m ≡ a
 coefficient-term m a = finite_laws.value-term terms m a m ∙ ap (λ t. cond (is_eq t) a (pos 0)) (tied_itself monomial_cmp_total m)
 
-pub wide_term : (m : Monomial) (a : ℤ) → 2 ^ 127 ≤ unsigned_abs a → HasWideCoefficient (term m a)
-wide_term m a h = (m, subst (λ z. 2 ^ 127 ≤ unsigned_abs z) (sym (coefficient-term m a)) h)
+-- a term with a number that is not 0 is not 0
+pub term_apart : (m : Monomial) (a : ℤ) → ¬ (a ≡ pos 0) → ¬ (term m a ≡ 0ᴾ)
+term_apart m a n e = n (sym (coefficient-term m a) ∙ ap (λ p. coefficient p m) e ∙ value-none terms m)
 
-pub high_term : (m : Monomial) (a : ℤ) → ¬ (a ≡ pos 0) → ((v : ℕ) × (65535 < exponent m v)) → HasHighExponent (term m a)
-high_term m a n h = (m, (λ z. n (sym (coefficient-term m a) ∙ z)), h)
+pub one_apart : ¬ (constant (pos 1) ≡ 0ᴾ)
+one_apart = term_apart unit (pos 1) (λ e. let k : 1 ≡ 0 = ap unsigned_abs e in omega arith)
 
 pub term_is : (m : Monomial) (a : ℤ) → term m a ≡ polynomial_of ((m, a) ∷ [])
 unfolding finite.term

@@ -3,14 +3,13 @@ use Rattle.std.specs.Prelude.{◌≡◌, ℕ, []}
 use Rattle.std.proofs.Common.{sym, ap, ap₂, ◌∙◌}
 use mathlib.Core.Path.{fun_ext}
 use Rattle.lie_math.specs.FiniteSumLaws as finite_laws
-use Rattle.lie_math.specs.Canonical.{sum_of_entries-map}
+use Rattle.lie_math.specs.Canonical.{sum_of_entries-map, Additive}
 use Rattle.lie_math.specs.Counts.{Derivative, raised, derived}
 use Rattle.lie_math.specs.FiniteSumLaws.{sum-none, sum-term, sum-plus}
 use Rattle.lie_math.specs.LinearForm.{forms, LinearForm, no_form, ◌+ᶠ◌, form_term, form_over, unknown_form, each_coefficient, times_form, derive, apply}
 use Rattle.lie_math.specs.PartialDerivative.{partial}
 use Rattle.lie_math.specs.Polynomial.{WholePolynomial, 0ᴾ, ◌+ᴾ◌, polynomials, ◌*ᴾ◌}
 use Rattle.lie_math.specs.PolynomialRing.{+ᴾ-*ᴾ, *ᴾ-dist, *ᴾ_assoc, one-*ᴾ, polynomial_ring}
-use Rattle.lie_math.specs.Monoid.{Additive}
 use Rattle.lie_math.specs.SortedSum.{sum_of_entries}
 use Rattle.lie_math.proofs.Counts.{partials_raise, partials_none}
 use Rattle.lie_math.proofs.LinearMap.{IsAdditive}

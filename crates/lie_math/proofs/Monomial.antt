@@ -6,7 +6,8 @@ use Rattle.std.specs.Cmp.{tied_itself, nat_cmp_total}
 use Rattle.std.specs.Cmp.Lexicographic.{slice_cmp}
 use Rattle.lie_math.specs.Natural.{naturals}
 use Rattle.lie_math.specs.SortedSum.{sum_of_entries}
-use Rattle.lie_math.specs.Monomial.{Monomial, ◌·◌, exponent, single, power_of, IsMonomial, monomial_cmp, monomial_of, pair_cmp, powers}
+use Rattle.lie_math.specs.Monomial.{Monomial, ◌·◌, exponent, single, power_of, monomial_cmp, monomial_of, pair_cmp, powers}
+use Rattle.lie_math.specs.FiniteSum.{IsCanonical}
 use Rattle.lie_math.specs.MonomialOrder.{monomial_cmp_total}
 use Rattle.lie_math.specs.FiniteSumLaws.{value-plus, value-term, ext}
 use Rattle.lie_math.proofs.FiniteSum.{value-put, key}
@@ -26,7 +27,7 @@ pairs_degree_is : (ps : List (ℕ × ℕ)) → pairs_degree ps ≡ sum_of_entrie
 pairs_degree_is [] = refl
 pairs_degree_is (p ∷ ps) = ap (λ n. p.1 + n) (pairs_degree_is ps)
 
-pub pairs_cmp_is : (ps qs : List (ℕ × ℕ)) → IsMonomial ps → IsMonomial qs → pairs_cmp ps qs ≡ monomial_cmp (monomial_of ps) (monomial_of qs)
+pub pairs_cmp_is : (ps qs : List (ℕ × ℕ)) → IsCanonical powers ps → IsCanonical powers qs → pairs_cmp ps qs ≡ monomial_cmp (monomial_of ps) (monomial_of qs)
 pairs_cmp_is ps qs h k =
     ap₂ (λ a b. ordering_then (nat_cmp b a) (slice_cmp pair_cmp ps qs)) (pairs_degree_is ps) (pairs_degree_is qs)
     ∙ ap₂ (λ xs ys. ordering_then (nat_cmp (sum_of_entries naturals (λ v e. e) ys) (sum_of_entries naturals (λ v e. e) xs)) (slice_cmp pair_cmp xs ys)) (sym (finite_laws.list-of powers ps h)) (sym (finite_laws.list-of powers qs k))

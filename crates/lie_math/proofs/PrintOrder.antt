@@ -8,10 +8,11 @@ use Rattle.std.specs.FinMap.{nat_cmp-IsAntisymmetric}
 use Rattle.lie_math.specs.SortedSum.{value_at, below_all, sum_of_entries}
 use Rattle.lie_math.specs.Canonical.{value_at-head, value_at-below, below_less}
 use Rattle.lie_math.specs.FiniteSumLaws.{value-plus, sum-plus}
-use Rattle.lie_math.specs.Monomial.{Monomial, exponent, degree, powers, pair_cmp, monomial_cmp, ◌·◌, IsMonomial}
+use Rattle.lie_math.specs.Monomial.{Monomial, exponent, degree, powers, pair_cmp, monomial_cmp, ◌·◌}
+use Rattle.lie_math.specs.FiniteSum.{IsCanonical}
 use Rattle.lie_math.specs.Natural.{exponents, naturals}
 use Rattle.lie_math.specs.MonomialOrder.{monomial_cmp_total, monomial_cmp-IsAntisymmetric}
-use Rattle.lie_math.proofs.Merge.{canonical_value, canonical_below, canonical_tail}
+use Rattle.lie_math.proofs.CanonicalLists.{canonical_value, canonical_below, canonical_tail}
 
 -- m stands before n: its degree is greater, or it is the same and m has the greater exponent at the lowest variable where the two differ
 pub record Leads (m n : Monomial) (v : ℕ) : Type 0 where
@@ -32,7 +33,7 @@ total ps = sum_of_entries naturals (λ v e. e) ps
 zero_plus : (n : ℕ) → 0 + n ≡ n
 zero_plus n = omega arith
 
-positive : (p : ℕ × ℕ) (ps : List (ℕ × ℕ)) → IsMonomial (p ∷ ps) → 0 < p.1
+positive : (p : ℕ × ℕ) (ps : List (ℕ × ℕ)) → IsCanonical powers (p ∷ ps) → 0 < p.1
 positive p ps h = by_test p.1 (canonical_value powers p ps h)
   where
     by_test : (n : ℕ) → T (not (eqb n 0)) → 0 < n
@@ -40,13 +41,13 @@ positive p ps h = by_test p.1 (canonical_value powers p ps h)
     by_test (suc n) t = omega arith
 
 -- at the first variable the list has its exponent, and below it nothing
-at_first : (p : ℕ × ℕ) (ps : List (ℕ × ℕ)) → IsMonomial (p ∷ ps) → at p.0 (p ∷ ps) ≡ p.1
+at_first : (p : ℕ × ℕ) (ps : List (ℕ × ℕ)) → IsCanonical powers (p ∷ ps) → at p.0 (p ∷ ps) ≡ p.1
 at_first p ps h = value_at-head nat_cmp exponents nat_cmp_total nat_cmp-IsAntisymmetric p ps (canonical_below powers p ps h)
 
 after_first : (p : ℕ × ℕ) (ps : List (ℕ × ℕ)) (w : ℕ) → p.0 < w → at w (p ∷ ps) ≡ at w ps
 after_first p ps w h = ap (λ r. cond (is_eq r) p.1 0 + at w ps) (sym (nat_cmp_is w p.0 Greater (omega arith))) ∙ zero_plus (at w ps)
 
-before_first : (p : ℕ × ℕ) (ps : List (ℕ × ℕ)) (w : ℕ) → IsMonomial (p ∷ ps) → w < p.0 → at w (p ∷ ps) ≡ 0
+before_first : (p : ℕ × ℕ) (ps : List (ℕ × ℕ)) (w : ℕ) → IsCanonical powers (p ∷ ps) → w < p.0 → at w (p ∷ ps) ≡ 0
 before_first p ps w h l =
     ap (λ r. cond (is_eq r) p.1 0 + at w ps) (sym (nat_cmp_is w p.0 Less l)) ∙ zero_plus (at w ps)
     ∙ value_at-below nat_cmp exponents nat_cmp_total nat_cmp-IsAntisymmetric w ps (lower_all ps (canonical_below powers p ps h))
@@ -65,7 +66,7 @@ no_less_either : Greater ≡ Less → ⊥
 no_less_either e = true≢false (sym (ap is_lt e))
 
 -- where the degrees are the same, the lesser list leads
-leads : (ps qs : List (ℕ × ℕ)) → IsMonomial ps → IsMonomial qs → total ps ≡ total qs → slice_cmp pair_cmp ps qs ≡ Less → (v : ℕ) × LeadsBy ps qs v
+leads : (ps qs : List (ℕ × ℕ)) → IsCanonical powers ps → IsCanonical powers qs → total ps ≡ total qs → slice_cmp pair_cmp ps qs ≡ Less → (v : ℕ) × LeadsBy ps qs v
 leads [] [] h k d e = absurd (no_less e)
 leads [] (q ∷ qs) h k d e = let g : 0 < q.1 = positive q qs k in absurd (omega arith)
 leads (p ∷ ps) [] h k d e = let g : 0 < p.1 = positive p ps h in absurd (omega arith)

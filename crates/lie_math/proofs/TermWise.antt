@@ -19,7 +19,8 @@ use Rattle.lie_math.specs.PolynomialRing.{polynomial_of-none, term-*ᴾ, times_r
 use Rattle.lie_math.specs.PartialDerivative.{partial, lower}
 use Rattle.lie_math.proofs.PartialDerivative.{partial_additive}
 use Rattle.lie_math.specs.Limits.{absolutes}
-use Rattle.lie_math.proofs.Merge.{IsCanonical, canonical_value, canonical_below, canonical_tail, canonical_cons, of-cons}
+use Rattle.lie_math.specs.FiniteSum.{IsCanonical}
+use Rattle.lie_math.proofs.CanonicalLists.{canonical_value, canonical_below, canonical_tail, canonical_cons, of-cons}
 use Rattle.lie_math.proofs.PrintOrder.{monomial_cmp-·}
 use Rattle.lie_math.proofs.Limits.{IsCovered, covered_first, covered_second, covered_trans, nonneg_absolutes, term_is, by_test}
 

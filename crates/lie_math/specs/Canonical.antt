@@ -5,8 +5,13 @@ use Rattle.std.specs.Ordering.{eq_by_cmp, ordering_reverse}
 use Rattle.std.specs.Cmp.{IsTotalOrder, tied_itself}
 use Rattle.std.specs.FinMap.{IsAntisymmetric}
 use Rattle.std.specs.FinMap.Entries.{by_order}
-use Rattle.lie_math.specs.Monoid.{Adder, Additive, Values}
+use Rattle.lie_math.specs.Monoid.{Adder, Values}
 use Rattle.lie_math.specs.SortedSum.{add_at, below_all, delta, is_canonical, normal, put_new, sum_of_entries, value_at}
+
+-- φ k is a homomorphism for each k
+pub record Additive {K A B : Type 0} (M : Adder A) (N : Adder B) (φ : K → A → B) : Type 0 where
+  pub on_nil : (k : K) → φ k M.nil ≡ N.nil
+  pub on_plus : (k : K) (a b : A) → φ k (M.plus a b) ≡ N.plus (φ k a) (φ k b)
 
 module _ {A : Type 0} (M : Adder A) where
   pub idr : (a : A) → M.plus a M.nil ≡ a

@@ -1,10 +1,12 @@
--- Well-formedness of rational polynomials, vector fields and linear systems: they can be stored.
+-- Well-formedness of rational polynomials, vector fields, linear forms and systems: they can be stored.
 use Rattle.std.specs.Prelude.{◌≡◌, ℕ, List}
 use Rattle.std.specs.Coded.{Coded, coded×, coded_ℕ, coded_list}
 use base.Stored.{coded_via}
 use Rattle.lie_math.specs.Polynomial.{WholePolynomial}
 use Rattle.lie_math.specs.PolynomialRing.{polynomial_code}
-use Rattle.lie_math.specs.LinearForm.{LinearForm, form_code}
+use Rattle.lie_math.specs.DerivativeOrder.{derivative_code}
+use Rattle.lie_math.specs.FiniteSumLaws as finite_laws
+use Rattle.lie_math.specs.LinearForm.{LinearForm, forms}
 use Rattle.lie_math.specs.RationalPolynomial.{RationalPolynomial}
 use Rattle.lie_math.specs.VectorField.{VectorField}
 use Rattle.lie_math.specs.LinearSystem.{Unknown, LinearSystem}
@@ -26,6 +28,9 @@ same_unknown x y e = λ i. record { number = (e i).0; variables = (e i).1 }
 
 abbrev pub unknown_code : Coded Unknown
 unknown_code = coded_via (coded× coded_ℕ (coded_list coded_ℕ)) (λ x. (x.number, x.variables)) same_unknown
+
+abbrev pub form_code : Coded LinearForm
+form_code = finite_laws.code forms derivative_code polynomial_code
 
 abbrev pub Parts : Type 0
 Parts = ((List Unknown × List LinearForm) × List LinearForm) × ℕ

@@ -15,9 +15,13 @@ pub record Shape (K A : Type 0) : Type 0 where
   pub same : IsAntisymmetric order
   pub values : Values A
 
+-- the keys rise, and no value is nil
+abbrev pub IsCanonical : {K A : Type 0} → Shape K A → List (K × A) → Type 0
+IsCanonical S es = T (is_canonical S.order S.values es)
+
 pub record FiniteSum {K A : Type 0} (S : Shape K A) : Type 0 where
   pub list : List (K × A)
-  pub canonical : T (is_canonical S.order S.values list)
+  pub canonical : IsCanonical S list
 
 abbrev pub list_is_empty : {X : Type 0} → List X → Bool
 list_is_empty [] = true

@@ -7,9 +7,9 @@ use lib.Dec.{T_prop}
 use Rattle.std.specs.Coded.{Coded, coded×, coded_list}
 use base.Stored.{coded_via}
 use Rattle.lie_math.specs.FiniteSum.{FiniteSum, Shape, is_none, list_is_empty, none, of, plus, sum_over, term, value}
-use Rattle.lie_math.specs.Monoid.{Adder, Additive, Values}
+use Rattle.lie_math.specs.Monoid.{Adder, Values}
+use Rattle.lie_math.specs.Canonical.{Additive, canonical_unique, delta_additive, idr, normal-canonical, normal_unique, sum_of_entries-append, sum_of_entries-map, sum_of_entries-normal}
 use Rattle.lie_math.specs.SortedSum.{delta, is_canonical, sum_of_entries, value_at}
-use Rattle.lie_math.specs.Canonical.{canonical_unique, delta_additive, idr, normal-canonical, normal_unique, sum_of_entries-append, sum_of_entries-map, sum_of_entries-normal}
 
 no_entries : {X : Type 0} (xs : List X) → list_is_empty xs ≡ true → xs ≡ []
 no_entries [] e = refl

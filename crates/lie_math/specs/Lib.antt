@@ -25,4 +25,3 @@ pub mod Codes
 pub mod Laws
 pub mod WorkedValues
 pub mod Limits
-pub mod Firsts

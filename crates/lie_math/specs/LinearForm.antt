@@ -1,24 +1,19 @@
 -- Linear forms in the derivatives of unknown functions: a finite sum of derivatives, each times a polynomial that is not 0.
-use Rattle.std.specs.Prelude.{ℕ, [], pos}
-use Rattle.std.specs.Coded.{Coded}
+use Rattle.std.specs.Prelude.{◌≡◌, ℕ, [], pos}
 use Rattle.lie_math.specs.FiniteSum as finite
 use Rattle.lie_math.specs.FiniteSumLaws as finite_laws
 use Rattle.lie_math.specs.Counts.{Derivative, derivative_cmp, raised, derived}
-use Rattle.lie_math.specs.DerivativeOrder.{derivative_cmp_total, derivative_same, derivative_code}
+use Rattle.lie_math.specs.DerivativeOrder.{derivative_cmp_total, derivative_same}
 use Rattle.lie_math.specs.FiniteSum.{Shape, FiniteSum}
 use Rattle.lie_math.specs.FiniteSumLaws.{values}
 use Rattle.lie_math.specs.PartialDerivative.{partial}
-use Rattle.lie_math.specs.Polynomial.{terms, WholePolynomial, polynomials, ◌*ᴾ◌, constant}
-use Rattle.lie_math.specs.PolynomialRing.{polynomial_code}
+use Rattle.lie_math.specs.Polynomial.{terms, WholePolynomial, polynomials, 0ᴾ, ◌*ᴾ◌, constant}
 
 abbrev pub forms : Shape Derivative WholePolynomial
 forms = record { order = derivative_cmp; total = derivative_cmp_total; same = derivative_same; values = finite_laws.values terms }
 
 abbrev pub LinearForm : Type 0
 LinearForm = FiniteSum forms
-
-abbrev pub form_code : Coded LinearForm
-form_code = finite_laws.code forms derivative_code polynomial_code
 
 abbrev pub no_form : LinearForm
 no_form = finite.none forms
@@ -44,6 +39,12 @@ each_coefficient L E = form_over (λ d a. form_term d (L a)) E
 
 abbrev pub times_form : WholePolynomial → LinearForm → LinearForm
 times_form p E = each_coefficient (λ a. p *ᴾ a) E
+
+-- E is a polynomial that is not 0, times G
+pub record IsMultipleOf (E G : LinearForm) : Type 0 where
+  pub factor : WholePolynomial
+  pub apart : ¬ (factor ≡ 0ᴾ)
+  pub is : E ≡ times_form factor G
 
 -- the derivative of a form by the i-th variable
 unfoldable pub derive : ℕ → LinearForm → LinearForm

@@ -1,4 +1,4 @@
--- Commutative monoids, those whose nil can be told, and maps into them that keep sums.
+-- Commutative monoids, and those whose nil can be told.
 use Rattle.std.specs.Prelude.{◌≡◌, Bool, true}
 
 -- a commutative monoid
@@ -15,8 +15,3 @@ pub record Values (A : Type 0) : Type 0 where
   pub is_nil : A → Bool
   pub is_nil_nil : is_nil adder.nil ≡ true
   pub nil_of_is : (a : A) → is_nil a ≡ true → a ≡ adder.nil
-
--- φ k is a homomorphism for each k
-pub record Additive {K A B : Type 0} (M : Adder A) (N : Adder B) (φ : K → A → B) : Type 0 where
-  pub on_nil : (k : K) → φ k M.nil ≡ N.nil
-  pub on_plus : (k : K) (a b : A) → φ k (M.plus a b) ≡ N.plus (φ k a) (φ k b)

@@ -1,12 +1,11 @@
 -- A monomial: a finite sum of variables with exponents above 0. Its degree, and the order in which monomials are printed.
-use Rattle.std.specs.Prelude.{ℕ, T, List}
+use Rattle.std.specs.Prelude.{ℕ, List}
 use Rattle.std.proofs.Common.{Ordering}
 use Rattle.std.specs.Ordering.{nat_cmp, then_cmp, on, flip_args}
 use Rattle.std.specs.Cmp.{nat_cmp_total}
 use Rattle.std.specs.Cmp.Lexicographic.{slice_cmp}
 use Rattle.std.specs.FinMap.{nat_cmp-IsAntisymmetric}
 use Rattle.lie_math.specs.FiniteSum.{FiniteSum, Shape}
-use Rattle.lie_math.specs.SortedSum.{is_canonical}
 use Rattle.lie_math.specs.Natural.{exponents, naturals}
 use Rattle.lie_math.specs.FiniteSum as finite
 
@@ -44,10 +43,6 @@ monomial_cmp = then_cmp (on degree (flip_args nat_cmp)) (on (λ m. m.list) (slic
 -- the product of the powers of a list
 abbrev pub monomial_of : List (ℕ × ℕ) → Monomial
 monomial_of = finite.of powers
-
--- a list that is the list of a monomial: the variables rise, and no exponent is 0
-abbrev pub IsMonomial : List (ℕ × ℕ) → Type 0
-IsMonomial ps = T (is_canonical nat_cmp exponents ps)
 
 -- the variable v alone, and its power v^e
 abbrev pub single : ℕ → Monomial

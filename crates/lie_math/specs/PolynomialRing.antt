@@ -5,11 +5,10 @@ use mathlib.Core.Path.{fun_ext}
 use lib.IntN.{*ℤ_comm, zero-*ℤ, *ℤ-zero}
 use Rattle.std.specs.Coded.{Coded, coded_ℤ}
 use Rattle.lie_math.specs.Integer.{*ℤ-distl, *ℤ-distr, *ℤ-idl, *ℤ_assoc, integers}
-use Rattle.lie_math.specs.Monoid.{Additive}
+use Rattle.lie_math.specs.Canonical.{Additive, sum_of_entries-map, sum_of_entries-nil, sum_of_entries-plus, sum_of_entries-swap}
 use Rattle.lie_math.specs.Ring.{Algebra, Ring}
 use Rattle.lie_math.specs.Polynomial.{polynomials, 0ᴾ, WholePolynomial, constant, negᴾ, over_terms, polynomial_of, term, terms, ◌*ᴾ◌, ◌+ᴾ◌}
 use Rattle.lie_math.specs.MonomialOrder.{monomial_code, ·_assoc, ·_comm, ·_idl}
-use Rattle.lie_math.specs.Canonical.{sum_of_entries-map, sum_of_entries-nil, sum_of_entries-plus, sum_of_entries-swap}
 use Rattle.lie_math.specs.Monomial.{Monomial, unit, ◌·◌}
 use Rattle.lie_math.specs.FiniteSumLaws.{sum-none, sum-plus, sum-term, sum_of_terms, term_additive}
 use Rattle.lie_math.specs.FiniteSum as finite

@@ -3,7 +3,7 @@ use Rattle.std.proofs.Common.{◌≡◌, sym, ap, ◌∙◌, List, ℤ}
 use Rattle.lie_math.specs.Monomial.{Monomial}
 use Rattle.lie_math.specs.Polynomial.{WholePolynomial, polynomial_of, terms}
 use Rattle.lie_math.specs.Limits.{absolutes, absolute}
-use Rattle.lie_math.proofs.Merge.{IsCanonical}
+use Rattle.lie_math.specs.FiniteSum.{IsCanonical}
 use Rattle.lie_math.proofs.Limits.{absolute_of}
 use Rattle.lie_ring.specs.Entries.{entries}
 

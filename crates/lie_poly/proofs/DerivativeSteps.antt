@@ -5,9 +5,12 @@ use Rattle.std.specs.Ordering.{nat_cmp, eq_by_cmp}
 use Rattle.lie_math.specs.Monomial.{Monomial, exponent, powers}
 use Rattle.lie_math.specs.Polynomial.{polynomial_of, term}
 use Rattle.lie_math.specs.PartialDerivative.{partial, lower}
-use Rattle.lie_math.specs.Limits.{FitsNumber, HasLowExponents, IsWithinLimits, absolutes, AreWithin}
+use Rattle.lie_math.specs.Limits.{FitsNumber, HasLowExponents, IsWithinLimits, absolutes}
+use Rattle.lie_poly.specs.Bulk.{AreWithin}
 use Rattle.lie_math.proofs.FiniteSum.{value-put}
-use Rattle.lie_math.proofs.Limits.{wide_term, limits_of, canonical_absolutes, length-absolutes}
+use Rattle.lie_math.proofs.Limits.{canonical_absolutes, length-absolutes}
+use Rattle.lie_ring.proofs.Limits.{wide_term}
+use Rattle.lie_poly.proofs.BulkLists.{limits_of}
 use Rattle.lie_math.proofs.TermWise.{derived_list, polynomial_of-derived, canonical_derived, absolutes-derived, entry_covered}
 use Rattle.lie_ring.specs.declared.failures.PastKind.TheVariants.{Coefficient, Exponent, Terms, Order, Unknowns, Width}
 use Rattle.lie_ring.specs.declared.failures.PolyFail.{PolyFail}

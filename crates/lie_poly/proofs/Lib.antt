@@ -1,4 +1,5 @@
 pub mod TermLists
+pub mod BulkLists
 pub mod TallyLists
 pub mod MergeSteps
 pub mod MergeTurns

@@ -9,10 +9,14 @@ use Rattle.lie_math.specs.Monomial.{Monomial, monomial_cmp}
 use Rattle.lie_math.specs.MonomialOrder.{monomial_cmp_total, monomial_cmp-IsAntisymmetric}
 use Rattle.lie_math.specs.Integer.{coefficients, is_zero_int, int_nil}
 use Rattle.lie_math.specs.Polynomial.{WholePolynomial, polynomial_of, terms, 0ᴾ, ◌+ᴾ◌, coefficient}
-use Rattle.lie_math.specs.Limits.{HasWideCoefficient, HasManyTerms, IsBulkOf, AreWithin}
-use Rattle.lie_math.proofs.Merge.{IsCanonical, Merging, merging_start, merging_less, merging_greater, merging_both, merging_done, heads, of-append, of-cons, canonical_front, canonical_value, canonical_below, canonical_tail}
-use Rattle.lie_math.specs.Firsts.{first_cmp}
-use Rattle.lie_math.proofs.Limits.{covered_first, covered_second, nonneg_sum, wide_covered, many_covered, by_test}
+use Rattle.lie_ring.specs.Limits.{HasWideCoefficient, HasManyTerms}
+use Rattle.lie_poly.specs.Bulk.{IsBulkOf, AreWithin}
+use Rattle.lie_math.specs.FiniteSum.{IsCanonical}
+use Rattle.lie_ring.proofs.Merging.{Merging, merging_start, merging_less, merging_greater, merging_both, merging_done, heads}
+use Rattle.lie_math.proofs.CanonicalLists.{of-append, of-cons, canonical_front, canonical_value, canonical_below, canonical_tail}
+use Rattle.lie_ring.specs.Firsts.{first_cmp}
+use Rattle.lie_math.proofs.Limits.{covered_first, covered_second, nonneg_sum, by_test}
+use Rattle.lie_ring.proofs.Limits.{wide_covered, many_covered}
 use Rattle.lie_ring.specs.declared.failures.PastKind.TheVariants.{Coefficient, Exponent, Terms, Order, Unknowns, Width}
 use Rattle.lie_ring.specs.declared.failures.PolyFail.{PolyFail}
 use Rattle.lie_ring.specs.declared.failures.PolyFail.TheVariants.{Past, NoMemory}

@@ -7,8 +7,9 @@ use Rattle.lie_math.specs.Integer.{is_zero_int, int_nil}
 use Rattle.lie_math.specs.Polynomial.{WholePolynomial, polynomial_of, terms, ◌+ᴾ◌}
 use Rattle.lie_math.specs.Limits.{FitsNumber, HasLowExponents, absolutes}
 use Rattle.lie_math.proofs.Integer.{unsigned_abs_zero}
-use Rattle.lie_math.proofs.Merge.{of-append, canonical_cons}
-use Rattle.lie_math.proofs.Limits.{IsCovered, covered_first, covered_second, nonneg_absolutes, absolutes-append, wide_covered, high_covered, many_covered, by_test}
+use Rattle.lie_math.proofs.CanonicalLists.{of-append, canonical_cons}
+use Rattle.lie_math.proofs.Limits.{IsCovered, covered_first, covered_second, nonneg_absolutes, absolutes-append, by_test}
+use Rattle.lie_ring.proofs.Limits.{wide_covered, high_covered, many_covered}
 use Rattle.lie_ring.specs.declared.failures.PastKind.TheVariants.{Coefficient, Exponent, Terms, Order, Unknowns, Width}
 use Rattle.lie_ring.specs.declared.failures.PolyFail.{PolyFail}
 use Rattle.lie_ring.specs.declared.failures.PolyFail.TheVariants.{Past, NoMemory}

@@ -7,10 +7,13 @@ use Rattle.lie_math.specs.FiniteSumLaws as finite_laws
 use Rattle.lie_math.specs.Monomial.{Monomial, monomial_cmp}
 use Rattle.lie_math.specs.Integer.{coefficients, is_zero_int, int_nil}
 use Rattle.lie_math.specs.Polynomial.{polynomial_of, terms, ◌+ᴾ◌, term}
-use Rattle.lie_math.specs.Limits.{FitsNumber, IsWithinLimits, IsBulkOf, AreWithin}
+use Rattle.lie_math.specs.Limits.{FitsNumber, IsWithinLimits}
+use Rattle.lie_poly.specs.Bulk.{IsBulkOf, AreWithin}
 use Rattle.lie_math.proofs.Integer.{unsigned_abs_zero}
-use Rattle.lie_math.proofs.Merge.{IsCanonical, canonical_below, canonical_tail, canonical_cons, of-cons}
-use Rattle.lie_math.proofs.Limits.{limits_of, bulk_nonneg, IsNonNegative, term_is}
+use Rattle.lie_math.specs.FiniteSum.{IsCanonical}
+use Rattle.lie_math.proofs.CanonicalLists.{canonical_below, canonical_tail, canonical_cons, of-cons}
+use Rattle.lie_math.proofs.Limits.{IsNonNegative, term_is}
+use Rattle.lie_poly.proofs.BulkLists.{limits_of, bulk_nonneg}
 use Rattle.lie_poly.specs.declared.tally.Tally.{Tally}
 use Rattle.lie_poly.specs.Sorted.{IsSorted}
 use Rattle.lie_poly.specs.Tallies.{sums, sizes, bulk_of, IsTallied, with_term, without_zeros}

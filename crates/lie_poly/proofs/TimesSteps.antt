@@ -7,10 +7,14 @@ use Rattle.lie_math.specs.FiniteSum as finite
 use Rattle.lie_math.specs.Monomial.{Monomial, ◌·◌}
 use Rattle.lie_math.specs.Polynomial.{WholePolynomial, polynomial_of, terms, term, constant, 0ᴾ, ◌+ᴾ◌, ◌*ᴾ◌}
 use Rattle.lie_math.specs.PolynomialRing.{+ᴾ-*ᴾ, 0ᴾ-*ᴾ, one-*ᴾ}
-use Rattle.lie_math.specs.Limits.{FitsNumber, HasLowExponents, absolutes, IsBulkOf, AreWithin}
+use Rattle.lie_math.specs.Limits.{FitsNumber, HasLowExponents, absolutes}
+use Rattle.lie_poly.specs.Bulk.{IsBulkOf, AreWithin}
 use Rattle.lie_math.proofs.Integer.{no_zero_divisors_ℤ}
-use Rattle.lie_math.proofs.Merge.{IsCanonical, of-cons, canonical_value, canonical_tail}
-use Rattle.lie_math.proofs.Limits.{IsCovered, IsNonNegative, covered_first, covered_second, nonneg_sum, nonneg_none, nonneg_absolutes, absolutes-append, bulk_absolutes, canonical_absolutes, length-absolutes, wide_term, high_term, term_is}
+use Rattle.lie_math.specs.FiniteSum.{IsCanonical}
+use Rattle.lie_math.proofs.CanonicalLists.{of-cons, canonical_value, canonical_tail}
+use Rattle.lie_math.proofs.Limits.{IsCovered, IsNonNegative, covered_first, covered_second, nonneg_sum, nonneg_none, nonneg_absolutes, absolutes-append, canonical_absolutes, length-absolutes, term_is}
+use Rattle.lie_poly.proofs.BulkLists.{bulk_absolutes}
+use Rattle.lie_ring.proofs.Limits.{wide_term, high_term}
 use Rattle.lie_math.proofs.TermWise.{times_list, length-times, polynomial_of-times, zero_times, canonical_times, absolutes-times, times_entry_covered, test_not_zero}
 use Rattle.lie_ring.specs.declared.failures.PastKind.TheVariants.{Coefficient, Exponent, Terms, Order, Unknowns, Width}
 use Rattle.lie_ring.specs.declared.failures.PolyFail.{PolyFail}

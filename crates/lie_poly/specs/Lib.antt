@@ -1,3 +1,4 @@
+pub mod Bulk
 pub mod Sorted
 pub mod Tallies
 pub mod Failures

@@ -3,7 +3,7 @@ use Rattle.std.specs.Prelude.{◌≤◌, T, List, length, ℤ}
 use Rattle.lie_math.specs.SortedSum.{is_canonical}
 use Rattle.lie_math.specs.Integer.{coefficients}
 use Rattle.lie_math.specs.Monomial.{Monomial, monomial_cmp}
-use Rattle.lie_math.specs.Limits.{AreWithin}
+use Rattle.lie_poly.specs.Bulk.{AreWithin}
 
 -- the monomials stand in print order, each once, with coefficients that are not 0
 abbrev pub IsInPrintOrder : List (Monomial × ℤ) → Type 0

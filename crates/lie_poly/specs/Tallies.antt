@@ -3,9 +3,9 @@ use Rattle.std.specs.Prelude.{◌≡◌, ◌≤◌, cond, List, [], ◌∷◌, l
 use Rattle.std.proofs.Common.{Ordering}
 use Rattle.lie_math.specs.Monomial.{Monomial, monomial_cmp}
 use Rattle.lie_math.specs.Integer.{is_zero_int}
-use Rattle.lie_math.specs.Polynomial.{WholePolynomial, polynomial_of, terms}
-use Rattle.lie_math.specs.Firsts.{first_cmp}
-use Rattle.lie_math.specs.Limits.{IsBulkOf, AreWithin}
+use Rattle.lie_math.specs.Polynomial.{WholePolynomial, polynomial_of}
+use Rattle.lie_ring.specs.Firsts.{first_cmp}
+use Rattle.lie_poly.specs.Bulk.{IsBulkOf, AreWithin}
 use Rattle.lie_poly.specs.declared.tally.Tally.{Tally}
 use Rattle.lie_poly.specs.Sorted.{IsInPrintOrder}
 

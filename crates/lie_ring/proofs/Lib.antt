@@ -1,3 +1,5 @@
+pub mod Limits
+pub mod Merging
 pub mod PairOrder
 pub mod PairLists
 pub mod PairProducts

@@ -9,10 +9,11 @@ use Rattle.lie_math.specs.SortedSum.{below_all}
 use Rattle.lie_math.specs.Canonical.{value_at-head, value_at-below, below_less, both, first, second}
 use Rattle.lie_math.specs.FiniteSumLaws.{value-of, ext}
 use Rattle.lie_math.specs.Natural.{exponents}
-use Rattle.lie_math.specs.Monomial.{exponent, powers, monomial_of, IsMonomial}
+use Rattle.lie_math.specs.Monomial.{exponent, powers, monomial_of}
+use Rattle.lie_math.specs.FiniteSum.{IsCanonical}
 use Rattle.lie_math.specs.PartialDerivative.{lower}
 use Rattle.lie_math.proofs.FiniteSum.{value-put}
-use Rattle.lie_math.proofs.Merge.{canonical_value, canonical_below, canonical_tail, canonical_cons}
+use Rattle.lie_math.proofs.CanonicalLists.{canonical_value, canonical_below, canonical_tail, canonical_cons}
 use Rattle.lie_ring.specs.Pairs.{power_of, with_power, lowered_pairs}
 
 -- ---- rising variables
@@ -46,17 +47,17 @@ at_most n v t = leb-true n v (is_T (nat_le n v) t)
 test_at_most : (n v : ℕ) → n ≤ v → T (nat_le n v)
 test_at_most n v h = subst T (sym (le-leb n v h)) tt
 
-pub rising_sound : (n : ℕ) (ps : List (ℕ × ℕ)) → T (rising_from n ps) → IsMonomial ps × AllAbove n ps
+pub rising_sound : (n : ℕ) (ps : List (ℕ × ℕ)) → T (rising_from n ps) → IsCanonical powers ps × AllAbove n ps
 rising_sound n [] t = (tt, λ k h. tt)
 rising_sound n (p ∷ ps) t =
     let tail : T (nat_le n p.0 && rising_from (p.0 + 1) ps) = second (not (eqb p.1 0)) _ t in
     let from : n ≤ p.0 = at_most n p.0 (first _ (rising_from (p.0 + 1) ps) tail) in
-    let rest : IsMonomial ps × AllAbove (p.0 + 1) ps = rising_sound (p.0 + 1) ps (second (nat_le n p.0) _ tail) in (
+    let rest : IsCanonical powers ps × AllAbove (p.0 + 1) ps = rising_sound (p.0 + 1) ps (second (nat_le n p.0) _ tail) in (
       canonical_cons powers p ps (first _ (nat_le n p.0 && rising_from (p.0 + 1) ps) t) (rest.1 p.0 (omega arith)) rest.0,
       λ k h. both _ (below_all nat_cmp exponents k ps) (less_test k p.0 (omega arith)) (rest.1 k (omega arith)),
     )
 
-pub rising_complete : (n : ℕ) (ps : List (ℕ × ℕ)) → IsMonomial ps → AllAbove n ps → T (rising_from n ps)
+pub rising_complete : (n : ℕ) (ps : List (ℕ × ℕ)) → IsCanonical powers ps → AllAbove n ps → T (rising_from n ps)
 rising_complete n [] h a = tt
 rising_complete n (p ∷ ps) h a =
     both _ (nat_le n p.0 && rising_from (p.0 + 1) ps) (canonical_value powers p ps h) (both _ (rising_from (p.0 + 1) ps) (test_at_most n p.0 from) (rising_complete (p.0 + 1) ps (canonical_tail powers p ps h) above))
@@ -92,7 +93,7 @@ stops n p ps (inr l) = by_test (nat_le n p.0) refl
 
 -- ---- one pair more
 
-at_head : (p : ℕ × ℕ) (ps : List (ℕ × ℕ)) → IsMonomial (p ∷ ps) → power_of p.0 (p ∷ ps) ≡ p.1
+at_head : (p : ℕ × ℕ) (ps : List (ℕ × ℕ)) → IsCanonical powers (p ∷ ps) → power_of p.0 (p ∷ ps) ≡ p.1
 at_head p ps h = value_at-head nat_cmp exponents nat_cmp_total nat_cmp-IsAntisymmetric p ps (canonical_below powers p ps h)
 
 zero_plus : (n : ℕ) → 0 + n ≡ n
@@ -117,7 +118,7 @@ abbrev pub AreLow : List (ℕ × ℕ) → Type 0
 AreLow [] = Unit {0}
 AreLow (p ∷ ps) = (p.1 ≤ 65535) × AreLow ps
 
-pub low_step : (v : ℕ) (p : ℕ × ℕ) (ps : List (ℕ × ℕ)) → IsMonomial (p ∷ ps) → p.1 ≤ 65535 → ((w : ℕ) → power_of w ps ≤ 65535) → power_of v (p ∷ ps) ≤ 65535
+pub low_step : (v : ℕ) (p : ℕ × ℕ) (ps : List (ℕ × ℕ)) → IsCanonical powers (p ∷ ps) → p.1 ≤ 65535 → ((w : ℕ) → power_of w ps ≤ 65535) → power_of v (p ∷ ps) ≤ 65535
 low_step v p ps h l r = by_rank (nat_cmp v p.0) (ranks v p.0) (r v)
   where
     other : ¬ (v ≡ p.0) → power_of v ps ≤ 65535 → power_of v (p ∷ ps) ≤ 65535
@@ -128,7 +129,7 @@ low_step v p ps h l r = by_rank (nat_cmp v p.0) (ranks v p.0) (r v)
     by_rank Equal e r = subst (λ w. power_of w (p ∷ ps) ≤ 65535) (sym e) (subst (λ n. n ≤ 65535) (sym (at_head p ps h)) l)
     by_rank Greater h r = other (λ e. omega arith) r
 
-pub low_list : (ps : List (ℕ × ℕ)) → IsMonomial ps → AreLow ps → (v : ℕ) → power_of v ps ≤ 65535
+pub low_list : (ps : List (ℕ × ℕ)) → IsCanonical powers ps → AreLow ps → (v : ℕ) → power_of v ps ≤ 65535
 low_list [] h l v = omega arith
 low_list (p ∷ ps) h l v = low_step v p ps h l.0 (λ w. low_list ps (canonical_tail powers p ps h) l.1 w)
 
@@ -139,10 +140,10 @@ low_append (q ∷ ps) p h l = (h.0, low_append ps p h.1 l)
 pub tail_at_most : (p : ℕ × ℕ) (ps : List (ℕ × ℕ)) (v : ℕ) → power_of v ps ≤ power_of v (p ∷ ps)
 tail_at_most p ps v = omega arith
 
-pub head_high : (p : ℕ × ℕ) (ps : List (ℕ × ℕ)) → IsMonomial (p ∷ ps) → 65535 < p.1 → 65535 < power_of p.0 (p ∷ ps)
+pub head_high : (p : ℕ × ℕ) (ps : List (ℕ × ℕ)) → IsCanonical powers (p ∷ ps) → 65535 < p.1 → 65535 < power_of p.0 (p ∷ ps)
 head_high p ps h l = subst (λ n. 65535 < n) (sym (at_head p ps h)) l
 
-pub head_power : (v : ℕ) (p : ℕ × ℕ) (ps : List (ℕ × ℕ)) → IsMonomial (p ∷ ps) → p.0 ≡ v → p.1 ≡ power_of v (p ∷ ps)
+pub head_power : (v : ℕ) (p : ℕ × ℕ) (ps : List (ℕ × ℕ)) → IsCanonical powers (p ∷ ps) → p.0 ≡ v → p.1 ≡ power_of v (p ∷ ps)
 head_power v p ps h e = sym (at_head p ps h) ∙ ap (λ w. power_of w (p ∷ ps)) e
 
 -- ---- one less of a variable
@@ -183,10 +184,10 @@ with_same k e qs = with_power_at k k e qs ∙ ap (λ t. cond t e 0 + power_of k 
 with_other : (w k e : ℕ) (qs : List (ℕ × ℕ)) → ¬ (w ≡ k) → power_of w (with_power k e qs) ≡ power_of w qs
 with_other w k e qs n = with_power_at w k e qs ∙ ap (λ t. cond t e 0 + power_of w qs) (apart w k n) ∙ zero_plus (power_of w qs)
 
-first_gone : (p : ℕ × ℕ) (ps : List (ℕ × ℕ)) → IsMonomial (p ∷ ps) → power_of p.0 ps ≡ 0
+first_gone : (p : ℕ × ℕ) (ps : List (ℕ × ℕ)) → IsCanonical powers (p ∷ ps) → power_of p.0 ps ≡ 0
 first_gone p ps h = value_at-below nat_cmp exponents nat_cmp_total nat_cmp-IsAntisymmetric p.0 ps (canonical_below powers p ps h)
 
-lowered_here : (v : ℕ) (ps : List (ℕ × ℕ)) → IsMonomial ps → power_of v (lowered_pairs v ps) ≡ power_of v ps - 1
+lowered_here : (v : ℕ) (ps : List (ℕ × ℕ)) → IsCanonical powers ps → power_of v (lowered_pairs v ps) ≡ power_of v ps - 1
 lowered_here v [] h = omega arith
 lowered_here v (p ∷ ps) h = by_rank (nat_cmp p.0 v) (ranks p.0 v) (lowered_here v ps (canonical_tail powers p ps h))
   where
@@ -230,18 +231,18 @@ below_lowered : (k v : ℕ) (ps : List (ℕ × ℕ)) → T (below_all nat_cmp ex
 below_lowered k v [] h = tt
 below_lowered k v (p ∷ ps) h = below_with k p.0 (cond (eqb p.0 v) (p.1 - 1) p.1) (lowered_pairs v ps) (first _ (below_all nat_cmp exponents k ps) h) (below_lowered k v ps (second (is_lt (nat_cmp k p.0)) _ h))
 
-monomial_with : (v e : ℕ) (ps : List (ℕ × ℕ)) → T (below_all nat_cmp exponents v ps) → IsMonomial ps → IsMonomial (with_power v e ps)
+monomial_with : (v e : ℕ) (ps : List (ℕ × ℕ)) → T (below_all nat_cmp exponents v ps) → IsCanonical powers ps → IsCanonical powers (with_power v e ps)
 monomial_with v e ps b h = by_test (eqb e 0) refl
   where
-    by_test : (t : Bool) → eqb e 0 ≡ t → IsMonomial (cond t ps ((v, e) ∷ ps))
+    by_test : (t : Bool) → eqb e 0 ≡ t → IsCanonical powers (cond t ps ((v, e) ∷ ps))
     by_test true f = h
     by_test false f = canonical_cons powers (v, e) ps (subst (λ t. T (not t)) (sym f) tt) b h
 
-pub lowered_rises : (v : ℕ) (ps : List (ℕ × ℕ)) → IsMonomial ps → IsMonomial (lowered_pairs v ps)
+pub lowered_rises : (v : ℕ) (ps : List (ℕ × ℕ)) → IsCanonical powers ps → IsCanonical powers (lowered_pairs v ps)
 lowered_rises v [] h = tt
 lowered_rises v (p ∷ ps) h = monomial_with p.0 (cond (eqb p.0 v) (p.1 - 1) p.1) (lowered_pairs v ps) (below_lowered p.0 v ps (canonical_below powers p ps h)) (lowered_rises v ps (canonical_tail powers p ps h))
 
-pub lowered_is : (v : ℕ) (ps : List (ℕ × ℕ)) → IsMonomial ps → monomial_of (lowered_pairs v ps) ≡ lower v (monomial_of ps)
+pub lowered_is : (v : ℕ) (ps : List (ℕ × ℕ)) → IsCanonical powers ps → monomial_of (lowered_pairs v ps) ≡ lower v (monomial_of ps)
 lowered_is v ps h = ext powers (monomial_of (lowered_pairs v ps)) (lower v (monomial_of ps)) (λ w.
     value-of powers (lowered_pairs v ps) w ∙ by_rank w (nat_cmp w v) (ranks w v) ∙ sym (value-put powers v (exponent (monomial_of ps) v - 1) (monomial_of ps) w))
   where

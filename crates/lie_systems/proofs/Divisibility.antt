@@ -5,10 +5,9 @@ use Prim.Native.Nat.{◌∣◌}
 use borrow.Author.Differences.{ints}
 use Rattle.std.proofs.lemmas.Int.{unsigned_abs-mul}
 use Rattle.std.proofs.lemmas.Nat.Gcd.{dvd_refl, dvd_trans, dvd-zero}
-use Rattle.lie_math.specs.Integer.{*ℤ-idl}
+use Rattle.lie_math.specs.Integer.{*ℤ-idl, integer_algebra}
 use Rattle.lie_math.specs.Canonical.{middle}
 use Rattle.lie_math.specs.Evaluation.{factors}
-use Rattle.lie_math.specs.Integer.{integer_algebra}
 use Rattle.lie_math.proofs.Integer.{int_div_exact}
 use Rattle.lie_math.specs.Monomial.{Monomial, ◌·◌}
 use Rattle.lie_systems.specs.Triples.{Triple}

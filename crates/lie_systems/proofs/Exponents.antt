@@ -10,7 +10,8 @@ use Rattle.lie_math.specs.Canonical.{value_at-below}
 use Rattle.lie_math.specs.FiniteSumLaws.{ext, value-of, value-none}
 use Rattle.lie_math.specs.Monomial.{Monomial, exponent, powers, unit, ◌·◌}
 use Rattle.lie_math.proofs.FiniteSum.{key}
-use Rattle.lie_math.proofs.Merge.{IsCanonical, canonical_below, canonical_tail}
+use Rattle.lie_math.specs.FiniteSum.{IsCanonical}
+use Rattle.lie_math.proofs.CanonicalLists.{canonical_below, canonical_tail}
 use Rattle.lie_math.proofs.Monomial.{exponent-·}
 use Rattle.lie_systems.specs.Laws.{DividesMonomial}
 use Rattle.lie_systems.specs.Normalised.{each_exponent, common_factor, without_factor}

@@ -11,7 +11,8 @@ use Rattle.lie_math.specs.Polynomial.{WholePolynomial, terms, 0ᴾ}
 use Rattle.lie_math.specs.Counts.{Derivative, derivative_cmp}
 use Rattle.lie_math.specs.DerivativeOrder.{derivative_cmp_total, derivative_same}
 use Rattle.lie_math.specs.LinearForm.{LinearForm, forms}
-use Rattle.lie_math.proofs.Merge.{IsCanonical, canonical_value, canonical_below}
+use Rattle.lie_math.specs.FiniteSum.{IsCanonical}
+use Rattle.lie_math.proofs.CanonicalLists.{canonical_value, canonical_below}
 use Rattle.lie_systems.specs.Leads.{IsLead}
 
 first_is_lead_of : (E : LinearForm) (e : Derivative × WholePolynomial) (es : List (Derivative × WholePolynomial)) → IsCanonical forms (e ∷ es) → E.list ≡ e ∷ es → IsLead e.0 E

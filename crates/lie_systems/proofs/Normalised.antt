@@ -14,7 +14,7 @@ use Rattle.lie_math.specs.Polynomial.{WholePolynomial, terms, term}
 use Rattle.lie_math.specs.Counts.{Derivative}
 use Rattle.lie_math.specs.LinearForm.{forms, LinearForm, times_form}
 use Rattle.lie_math.proofs.Integer.{cancel_ℤ, unsigned_abs_zero}
-use Rattle.lie_math.proofs.Merge.{canonical_value}
+use Rattle.lie_math.proofs.CanonicalLists.{canonical_value}
 use Rattle.lie_math.proofs.TermWise.{test_not_zero}
 use Rattle.lie_math.proofs.ZeroDivisors.{cancel_mono}
 use Rattle.lie_systems.specs.Triples.{Triple, triples, triples_in, triples_with, sum_of_triples}

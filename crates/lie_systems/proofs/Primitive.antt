@@ -1,21 +1,19 @@
 -- The normalised equation: it is normalised, the form is a multiple of it, and it has the same solutions.
-use Rattle.std.specs.Prelude.{◌≡◌, ℕ, suc, ◌+◌, ◌<◌, ◌↔◌, List, [], ◌∷◌, length, ℤ, pos, not, T}
+use Rattle.std.specs.Prelude.{◌≡◌, ℕ, suc, ◌<◌, ◌↔◌, List, [], ◌∷◌, length, pos, not, T}
 use Rattle.std.proofs.Common.{refl, sym, ap, subst, ◌∙◌, arith, inl, inr}
 use Rattle.lie_math.specs.FiniteSum as finite
 use Rattle.lie_math.specs.FiniteSumLaws.{is_none_none, of_list, same_list}
-use Rattle.lie_math.specs.Monomial.{unit}
-use Rattle.lie_math.specs.Polynomial.{WholePolynomial, terms, term, 0ᴾ, ◌*ᴾ◌, constant}
-use Rattle.lie_math.specs.PolynomialRing.{*ᴾ_comm, one-*ᴾ, polynomial_ring}
+use Rattle.lie_math.specs.Polynomial.{WholePolynomial, terms, term, 0ᴾ, constant}
+use Rattle.lie_math.specs.PolynomialRing.{*ᴾ_comm, one-*ᴾ}
 use Rattle.lie_math.specs.Counts.{Derivative}
-use Rattle.lie_math.specs.LinearForm.{forms, LinearForm, no_form, form_term, apply}
-use Rattle.lie_math.proofs.LinearForm.{apply_times}
-use Rattle.lie_math.proofs.Ring.{times_nil}
-use Rattle.lie_math.proofs.Merge.{canonical_value}
-use Rattle.lie_math.proofs.ZeroDivisors.{no_zero_divisors}
+use Rattle.lie_math.specs.LinearForm.{forms, LinearForm, no_form, form_term, apply, IsMultipleOf}
+use Rattle.lie_math.proofs.Cancellation.{multiple_says}
+use Rattle.lie_math.proofs.CanonicalLists.{canonical_value}
+use Rattle.lie_math.proofs.Limits.{term_apart, one_apart}
 use Rattle.lie_systems.specs.Triples.{triples}
-use Rattle.lie_systems.specs.Normalised.{common_monomial, IsNormalised, primitive, primitive_of, IsMultipleOf}
+use Rattle.lie_systems.specs.Normalised.{common_monomial, IsNormalised, primitive, primitive_of}
 use Rattle.lie_systems.proofs.Normalised.{first_of, signed_content, signed_content_apart, primitive_part, times-primitive_part, primitive_part_is_primitive}
-use Rattle.lie_systems.proofs.Triples.{each_times, list-times_form, term_apart, times_form-none, times_form-term, sum_of_triples-triples}
+use Rattle.lie_systems.proofs.Triples.{each_times, list-times_form, times_form-none, times_form-term, sum_of_triples-triples}
 
 pub length-each : (p : WholePolynomial) (es : List (Derivative × WholePolynomial)) → length (each_times p es) ≡ length es
 length-each p [] = refl
@@ -35,9 +33,6 @@ coefficient_apart : (E : LinearForm) (e : Derivative × WholePolynomial) (es : L
 coefficient_apart E e es is z =
     subst (λ b. T (not b)) (ap (finite.is_none terms) z ∙ is_none_none terms)
     (canonical_value forms e es (subst (λ xs. T (Rattle.lie_math.specs.SortedSum.is_canonical forms.order forms.values xs)) is E.canonical))
-
-pub one_apart : ¬ (constant (pos 1) ≡ 0ᴾ)
-one_apart = term_apart unit (pos 1) (λ e. let k : 1 ≡ 0 = ap Rattle.std.specs.Prelude.unsigned_abs e in omega arith)
 
 pub multiple_of_primitive : (E : LinearForm) → IsMultipleOf E (primitive E)
 unfolding primitive
@@ -77,7 +72,4 @@ primitive_normalised E n = go E.list refl
 
 -- an equation and its normalised equation have the same solutions
 pub primitive_same_solutions : (F : ℕ → WholePolynomial) (E : LinearForm) → apply F E ≡ 0ᴾ ↔ apply F (primitive E) ≡ 0ᴾ
-primitive_same_solutions F E =
-    let m = multiple_of_primitive E in
-    let says : apply F E ≡ m.factor *ᴾ apply F (primitive E) = ap (apply F) m.is ∙ apply_times F m.factor (primitive E) in
-    (λ z. no_zero_divisors m.factor (apply F (primitive E)) m.apart (sym says ∙ z), λ z. says ∙ ap (λ q. m.factor *ᴾ q) z ∙ times_nil polynomial_ring m.factor)
+primitive_same_solutions F E = multiple_says F E (primitive E) (multiple_of_primitive E)

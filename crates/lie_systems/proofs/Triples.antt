@@ -3,18 +3,18 @@ use Rattle.std.specs.Prelude.{◌≡◌, not, T, List, [], ◌∷◌, ◌++◌, 
 use Rattle.std.proofs.Common.{refl, sym, ap, ap₂, subst, ◌∙◌, is_lt}
 use Rattle.std.proofs.lemmas.List.{map-append}
 use Rattle.lie_math.specs.SortedSum.{sum_of_entries, below_all}
-use Rattle.lie_math.specs.Canonical.{both, first, second}
+use Rattle.lie_math.specs.Canonical.{both, first, second, Additive}
 use Rattle.lie_math.specs.FiniteSum as finite
 use Rattle.lie_math.specs.FiniteSumLaws as finite_laws
 use Rattle.lie_math.specs.FiniteSumLaws.{sum-none, sum-plus, sum-term, sum_of_terms, term_additive, plus_idl, plus_assoc, of_list, list-of}
-use Rattle.lie_math.specs.Monoid.{Additive}
 use Rattle.lie_math.specs.Monomial.{Monomial, ◌·◌}
 use Rattle.lie_math.specs.Polynomial.{WholePolynomial, terms, term, polynomials, polynomial_of, 0ᴾ, ◌*ᴾ◌}
 use Rattle.lie_math.specs.PolynomialRing.{*ᴾ-dist, polynomial_of-none, polynomial_ring, term_times_term}
 use Rattle.lie_math.specs.Counts.{Derivative, derivative_cmp}
 use Rattle.lie_math.specs.LinearForm.{forms, LinearForm, no_form, ◌+ᶠ◌, form_term, times_form}
-use Rattle.lie_math.proofs.Limits.{term_is, by_test}
-use Rattle.lie_math.proofs.Merge.{IsCanonical, canonical_value, canonical_below, canonical_tail, canonical_cons, of-cons}
+use Rattle.lie_math.proofs.Limits.{term_is, by_test, term_apart}
+use Rattle.lie_math.specs.FiniteSum.{IsCanonical}
+use Rattle.lie_math.proofs.CanonicalLists.{canonical_value, canonical_below, canonical_tail, canonical_cons, of-cons}
 use Rattle.lie_math.proofs.Ring.{times_nil}
 use Rattle.lie_math.proofs.TermWise.{times_list, polynomial_of-times, canonical_times}
 use Rattle.lie_math.proofs.ZeroDivisors.{no_zero_divisors}
@@ -116,9 +116,5 @@ module _ (m : Monomial) (a : ℤ) where
         ap₂ ◌++◌ (ap (triples_with e.0) (list-term_times e.1) ∙ triples_with-times e.0 e.1.list) (triples_in-times es)
         ∙ sym (map-append (times_triple m a) (triples_with e.0 e.1.list) (triples_in es))
 
-    -- a term is not 0
-    pub term_apart : ¬ (term m a ≡ 0ᴾ)
-    term_apart e = n (sym (Rattle.lie_math.proofs.Limits.coefficient-term m a) ∙ ap (λ p. Rattle.lie_math.specs.Polynomial.coefficient p m) e ∙ finite_laws.value-none terms m)
-
     pub triples-times : (E : LinearForm) → triples (times_form (term m a) E) ≡ map (times_triple m a) (triples E)
-    triples-times E = ap triples_in (list-times_form (term m a) term_apart E) ∙ triples_in-times E.list
+    triples-times E = ap triples_in (list-times_form (term m a) (term_apart m a n) E) ∙ triples_in-times E.list

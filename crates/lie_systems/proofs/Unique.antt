@@ -13,14 +13,14 @@ use Rattle.lie_math.specs.Polynomial.{WholePolynomial, terms, term, constant, �
 use Rattle.lie_math.specs.Counts.{Derivative}
 use Rattle.lie_math.specs.LinearForm.{forms, LinearForm, no_form, times_form}
 use Rattle.lie_math.proofs.Integer.{cancel_ℤ, not_zero, product_not_zero, unsigned_abs_zero}
-use Rattle.lie_math.proofs.Limits.{by_test}
+use Rattle.lie_math.proofs.Limits.{by_test, term_apart, one_apart}
 use Rattle.lie_math.proofs.ZeroDivisors.{cancel_mono}
 use Rattle.lie_systems.specs.Triples.{Triple, triples, sum_of_triples}
 use Rattle.lie_systems.specs.Normalised.{content, common_monomial, IsFirstPositive, IsPrimitive, derivative_alone, IsNormalised, primitive, primitive_of}
 use Rattle.lie_systems.proofs.Divisibility.{content-times, common_monomial-times}
 use Rattle.lie_systems.proofs.Normalised.{first_of, times_unit, signed_content, signed_content_apart, primitive_part, times-primitive_part}
-use Rattle.lie_systems.proofs.Primitive.{one_apart, length-each, primitive_normalised}
-use Rattle.lie_systems.proofs.Triples.{times_triple, each_times, list-times_form, term_apart, triples-times, triples_tell, times_form-sum, sum_of_triples-triples}
+use Rattle.lie_systems.proofs.Primitive.{length-each, primitive_normalised}
+use Rattle.lie_systems.proofs.Triples.{times_triple, each_times, list-times_form, triples-times, triples_tell, times_form-sum, sum_of_triples-triples}
 
 -- ---- lists
 no_cons : {X : Type 0} {x : X} {xs : List X} → x ∷ xs ≡ [] → ⊥

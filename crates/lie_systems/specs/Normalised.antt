@@ -1,9 +1,9 @@
 -- Normalised equations: no number above 1 and no variable divides the whole equation, and its first number is positive.
 use Rattle.std.specs.Prelude.{◌≡◌, ℕ, zero, suc, ◌-◌, ◌%◌, ◌<◌, ◌⊎◌, min, cond, eqb, List, [], ◌∷◌, map, length, ℤ, pos, negsuc, ◌*ℤ◌, unsigned_abs, int_div}
 use Rattle.lie_math.specs.Monomial.{Monomial, monomial_of, exponent, unit}
-use Rattle.lie_math.specs.Polynomial.{WholePolynomial, 0ᴾ, constant}
+use Rattle.lie_math.specs.Polynomial.{WholePolynomial, constant}
 use Rattle.lie_math.specs.Counts.{Derivative}
-use Rattle.lie_math.specs.LinearForm.{LinearForm, no_form, form_term, times_form}
+use Rattle.lie_math.specs.LinearForm.{LinearForm, no_form, form_term}
 use Rattle.lie_systems.specs.Triples.{Triple, triples, sum_of_triples}
 
 -- ---- the greatest common divisor of two numbers, by Euclid's steps
@@ -82,9 +82,3 @@ primitive_of (e ∷ f ∷ es) ts = sum_of_triples (primitive_triples ts)
 -- the normalised equation: nothing for nothing, the derivative where there is only one, and else the form divided by all that divides it
 unfoldable pub primitive : LinearForm → LinearForm
 primitive E = primitive_of E.list (triples E)
-
--- E is a polynomial that is not 0, times N
-pub record IsMultipleOf (E N : LinearForm) : Type 0 where
-  pub factor : WholePolynomial
-  pub apart : ¬ (factor ≡ 0ᴾ)
-  pub is : E ≡ times_form factor N

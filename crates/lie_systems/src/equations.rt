@@ -1,8 +1,8 @@
 //! Normalised equations: what divides an equation, what is left of it, and that this is one equation for all its multiples.
 
 ghost use Rattle.std.specs.Prelude.{◌≡◌};
-ghost use Rattle.lie_math.specs.LinearForm.{LinearForm};
-ghost use Rattle.lie_systems.specs.Normalised.{IsMultipleOf, IsNormalised, primitive};
+ghost use Rattle.lie_math.specs.LinearForm.{LinearForm, IsMultipleOf};
+ghost use Rattle.lie_systems.specs.Normalised.{IsNormalised, primitive};
 ghost use Rattle.lie_systems.specs.Laws.{ContentIsGreatest, CommonMonomialIsGreatest, PrimitiveIsNormalised, PrimitiveHasSameSolutions, NormalisedIsUnique, PrimitiveOfMultiple};
 
 /// The content is the greatest common divisor of the numbers.

@@ -1,4 +1,4 @@
-use Rattle.std.proofs.Common.{arith, length, ◌≡◌, ◌∙◌, ap, ap₂}
+use Rattle.std.proofs.Common.{arith, length, ◌≡◌, ◌∙◌, ap₂}
 use Rattle.std.specs.Ordering.{nat_cmp, ordering_then}
 use Rattle.std.specs.Cmp.Lexicographic.{slice_cmp}
 use Rattle.lie_jet.proofs.DerivativeLists.{compare_is}

@@ -1,4 +1,4 @@
-use Rattle.std.proofs.Common.{arith, length, ◌∙◌, ap}
+use Rattle.std.proofs.Common.{arith}
 use Rattle.lie_jet.proofs.DerivativeLists.{raised_is}
 use Rattle.lie_jet.proofs.derivative.raise_derivative.Goals as goal
 

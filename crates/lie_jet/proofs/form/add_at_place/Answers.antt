@@ -1,12 +1,11 @@
-use Rattle.std.proofs.Common.{ap, sym, subst, ◌∙◌, ◌≡◌, ◌++◌, ◌∷◌, arith, take, drop}
+use Rattle.std.proofs.Common.{ap, subst, ◌∙◌, ◌++◌, take}
 use Rattle.lie_math.specs.Counts.{Derivative}
 use Rattle.lie_math.specs.Limits.{absolute}
 use Rattle.lie_math.specs.LinearForm.{forms}
 use Rattle.lie_math.specs.SortedSum.{put_new}
 use Rattle.lie_ring.specs.Causes.{IsCause}
 use Rattle.lie_math.specs.Polynomial.{WholePolynomial, ◌+ᴾ◌}
-use Rattle.lie_jet.specs.Derivatives.{derivative_of, derivative_terms}
-use Rattle.lie_jet.specs.declared.derivative.Der.{Der}
+use Rattle.lie_jet.specs.Derivatives.{derivative_terms}
 use Rattle.lie_jet.proofs.DerivativeLists.{term_at}
 use Rattle.lie_jet.proofs.form.add_at_place.Goals as goal
 

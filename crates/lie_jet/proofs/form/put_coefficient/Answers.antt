@@ -1,5 +1,4 @@
-use Rattle.std.proofs.Common.{ap, sym, ◌∙◌, ◌≡◌, ◌++◌, ◌∷◌, arith, take, drop, cond, suc}
-use Rattle.std.proofs.lemmas.Grind.{common_steps}
+use Rattle.std.proofs.Common.{ap, sym, ◌∙◌, ◌++◌, ◌∷◌, take, cond}
 use Rattle.lie_math.specs.Counts.{Derivative}
 use Rattle.lie_math.specs.Polynomial.{WholePolynomial}
 use Rattle.lie_jet.specs.Derivatives.{derivative_of, derivative_terms}

@@ -1,11 +1,11 @@
-use Rattle.std.proofs.Common.{List, drop, refl, ap, sym, subst, ◌∙◌, ◌≡◌, arith}
+use Rattle.std.proofs.Common.{List, drop, refl, subst}
 use Rattle.lie_math.specs.Limits.{absolute}
 use Rattle.lie_math.specs.Polynomial.{WholePolynomial, ◌+ᴾ◌}
 use Rattle.lie_ring.specs.Causes.{IsCause}
 use Rattle.lie_jet.specs.Derivatives.{derivative_of, derivative_terms, GoesTo, IsFirst}
 use Rattle.lie_jet.specs.declared.derivative.Der.{Der}
 use Rattle.lie_jet.proofs.TotalSteps.{on_ok, if_err}
-use Rattle.lie_jet.proofs.DerivativeLists.{added_at_first, added_before, coefficient_at_first}
+use Rattle.lie_jet.proofs.DerivativeLists.{added_at_first, coefficient_at_first}
 use Rattle.lie_jet.proofs.form.put_term.Goals as goal
 use Rattle.lie_jet.proofs.form.put_term.Goals.{After-add_at_place}
 

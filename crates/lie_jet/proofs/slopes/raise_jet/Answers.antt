@@ -1,8 +1,8 @@
-use Rattle.std.proofs.Common.{ℕ, arith, subst, sym, ap, ◌∙◌, ◌≡◌, ◌+◌, ◌≤◌, take, length, slice_set, slice_index}
-use Rattle.lie_math.specs.Counts.{raise, order}
+use Rattle.std.proofs.Common.{subst, sym, ◌≡◌, ◌+◌, take, slice_set, slice_index}
+use Rattle.lie_math.specs.Counts.{raise}
 use Rattle.lie_geometry.specs.Coordinates.{jet}
 use Rattle.lie_jet.specs.Jets.{coordinate_of, IsJet}
-use Rattle.lie_jet.proofs.Raised.{raised_jet, index_low}
+use Rattle.lie_jet.proofs.Raised.{raised_jet}
 use Rattle.lie_jet.proofs.slopes.raise_jet.Goals as goal
 
 pub returns : goal.returns

@@ -1,6 +1,6 @@
-use Rattle.std.proofs.Common.{ℕ, ap, subst, sym, ◌∙◌, ◌≡◌, ◌++◌, ◌∷◌, []}
-use Rattle.std.specs.Prelude.{ℤ, pos, unsigned_abs, ◌*ℤ◌}
-use Rattle.lie_math.specs.Monomial.{Monomial, ◌·◌}
+use Rattle.std.proofs.Common.{ap, subst, ◌∙◌}
+use Rattle.std.specs.Prelude.{pos, unsigned_abs, ◌*ℤ◌}
+use Rattle.lie_math.specs.Monomial.{◌·◌}
 use Rattle.lie_math.specs.PartialDerivative.{lower}
 use Rattle.lie_math.specs.Polynomial.{term, variable, ◌+ᴾ◌}
 use Rattle.lie_geometry.specs.Prolongation.{total_derivative}

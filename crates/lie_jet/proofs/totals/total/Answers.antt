@@ -1,9 +1,8 @@
-use Rattle.std.proofs.Common.{ℕ, ◌+◌, ◌≤◌, arith, ap, subst, sym, ◌∙◌, ◌≡◌, take, length}
-use Rattle.std.specs.Prelude.{ℤ, List, pos, unsigned_abs}
+use Rattle.std.proofs.Common.{arith, ap, subst, sym, ◌∙◌, ◌≡◌}
+use Rattle.std.specs.Prelude.{pos, unsigned_abs}
 use Rattle.std.proofs.lemmas.Result.{err_from_is_err_and}
 use Rattle.lie_math.specs.Limits.{IsWithinLimits, absolute}
-use Rattle.lie_math.specs.Monomial.{Monomial}
-use Rattle.lie_math.specs.Polynomial.{WholePolynomial, term, ◌+ᴾ◌}
+use Rattle.lie_math.specs.Polynomial.{term, ◌+ᴾ◌}
 use Rattle.lie_geometry.specs.Coordinates.{Space, coordinates_up_to}
 use Rattle.lie_geometry.specs.Prolongation.{total_derivative}
 use Rattle.lie_ring.specs.Causes.{IsCause}

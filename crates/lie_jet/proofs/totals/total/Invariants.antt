@@ -1,8 +1,5 @@
 use Rattle.std.proofs.Common.{◌≡◌, take}
-use Rattle.lie_math.specs.Limits.{absolutes}
-use Rattle.lie_math.specs.Polynomial.{polynomial_of}
 use Rattle.lie_geometry.specs.Prolongation.{total_derivative}
-use Rattle.lie_ring.specs.Entries.{entries}
 use Rattle.lie_jet.specs.Listed.{sum_listed, bulk_listed}
 use Rattle.lie_jet.proofs.totals.total.Given as goal
 

@@ -3,7 +3,7 @@ use Rattle.std.proofs.lemmas.Result.{err_from_is_err_and}
 use Rattle.std.proofs.lemmas.List.{length-drop}
 use Rattle.std.proofs.lemmas.Grind.{common_steps}
 use Rattle.lie_math.specs.Monomial.{powers, monomial_of, ◌·◌}
-use Rattle.lie_math.proofs.Merge.{Merging, merging_start}
+use Rattle.lie_ring.proofs.Merging.{Merging, merging_start}
 use Rattle.lie_ring.proofs.PairLists.{AreLow, low_append}
 use Rattle.lie_ring.proofs.PairProducts.{firsts, product_cause, step_less, high_less, step_greater, high_greater, step_equal, high_equal, done_rises, done_product, done_low, less_in, greater_in, equal_left_in, equal_right_in}
 use Rattle.lie_ring.proofs.pairs.join.Goals as goal

@@ -1,7 +1,7 @@
-use Rattle.std.proofs.Common.{ap, sym, subst, ◌∙◌, ◌≡◌}
+use Rattle.std.proofs.Common.{ap, ◌∙◌}
 use Rattle.lie_math.specs.LinearForm.{◌+ᶠ◌, form_term}
 use Rattle.lie_jet.specs.Derivatives.{derivative_of, derivative_terms}
-use Rattle.lie_jet.proofs.TotalSteps.{on_ok, if_err}
+use Rattle.lie_jet.proofs.TotalSteps.{on_ok}
 use Rattle.lie_jet.proofs.DerivativeLists.{put_form, canonical_after}
 use Rattle.lie_jet.proofs.form.SymForm.put.Goals as goal
 

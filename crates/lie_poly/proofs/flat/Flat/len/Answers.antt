@@ -2,7 +2,7 @@ use Rattle.std.proofs.Common.{sym, subst, ap, ◌∙◌, length}
 use Rattle.lie_math.specs.FiniteSumLaws.{list-of}
 use Rattle.lie_math.specs.Polynomial.{WholePolynomial, terms}
 use Rattle.lie_math.specs.Limits.{IsWithinLimits}
-use Rattle.lie_math.proofs.Limits.{limits_of}
+use Rattle.lie_poly.proofs.BulkLists.{limits_of}
 use Rattle.lie_ring.specs.Entries.{entries}
 use Rattle.lie_poly.proofs.TermLists.{length-entries}
 use Rattle.lie_poly.proofs.flat.Flat.len.Goals as goal
