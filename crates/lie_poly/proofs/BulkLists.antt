@@ -9,12 +9,12 @@ use Rattle.lie_math.specs.FiniteSumLaws as finite_laws
 use Rattle.lie_math.proofs.FiniteSum as finite_proofs
 use Rattle.lie_math.specs.Monomial.{Monomial, monomial_cmp}
 use Rattle.lie_math.specs.MonomialOrder.{monomial_cmp_total, monomial_cmp-IsAntisymmetric}
-use Rattle.lie_math.specs.Polynomial.{terms, polynomial_of}
+use Rattle.lie_math.specs.Polynomial.{coefficient, terms, polynomial_of}
 use Rattle.lie_math.specs.Integer.{coefficients}
 use Rattle.lie_math.specs.Limits.{HasLowExponents, IsWithinLimits, absolutes}
 use Rattle.lie_math.specs.FiniteSum.{IsCanonical}
 use Rattle.lie_math.proofs.CanonicalLists.{canonical_below, canonical_tail}
-use Rattle.lie_math.proofs.Limits.{at, IsNonNegative}
+use Rattle.lie_math.proofs.Limits.{at, IsCovered, IsNonNegative}
 use Rattle.lie_poly.specs.Bulk.{IsBulkOf, AreWithin}
 
 -- ---- lists and their bulk
@@ -41,6 +41,9 @@ bulk_at (x ∷ xs) [] m h = absurd h
 bulk_at (x ∷ xs) (y ∷ ys) m h =
     subst (λ k. Bounds (cond (eq_by_cmp monomial_cmp m k) x.1 (pos 0) +ℤ at m xs) (at m (y ∷ ys))) (sym h.0)
     (one_more (eq_by_cmp monomial_cmp m y.0) x.1 y.1 (at m xs) (at m ys) (record { covered = h.1; plain = h.2 }) (bulk_at xs ys m h.3))
+
+pub bulk_covers : (xs ys : List (Monomial × ℤ)) → IsBulkOf xs ys → IsCovered (polynomial_of xs) (polynomial_of ys)
+bulk_covers xs ys h = record { at_most = λ m. subst (λ z. unsigned_abs (coefficient (polynomial_of xs) m) ≤ unsigned_abs z) (sym (value-of terms ys m)) (subst (λ z. unsigned_abs z ≤ unsigned_abs (at m ys)) (sym (value-of terms xs m)) (bulk_at xs ys m h).covered) }
 
 pub bulk_nonneg : (xs ys : List (Monomial × ℤ)) → IsBulkOf xs ys → IsNonNegative (polynomial_of ys)
 bulk_nonneg xs ys h = record { plain = λ m. subst (λ z. z ≡ pos (unsigned_abs z)) (sym (value-of terms ys m)) (bulk_at xs ys m h).plain }
