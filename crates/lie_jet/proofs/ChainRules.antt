@@ -4,7 +4,6 @@ use Rattle.std.proofs.Common.{refl, sym, ap, ap₂, subst, ◌∙◌, arith, is_
 use Rattle.std.specs.Ordering.{eq_by_cmp, nat_cmp}
 use Rattle.std.specs.Cmp.{tied_itself, nat_cmp_total}
 use lib.IntN.{*ℤ-zero}
-use Rattle.lie_math.specs.Canonical.{value_at-below}
 use Rattle.lie_math.specs.Derivation.{sum_of, numbers_below, is_below, IsDerivation}
 use Rattle.lie_math.specs.FiniteSumLaws as finite_laws
 use Rattle.lie_math.proofs.FiniteSum as finite_proofs
@@ -21,6 +20,7 @@ use Rattle.lie_math.proofs.CanonicalLists.{canonical_below, canonical_tail}
 use Rattle.lie_math.proofs.PartialDerivative.{partial-term}
 use Rattle.lie_math.proofs.Ring.{plus_idr, times_nil}
 use Rattle.lie_math.proofs.SumOf.{sum_of-plus, sum_of-0ᴾ}
+use Rattle.lie_math.specs.Canonical.{value_at-below}
 use Rattle.lie_geometry.proofs.SymbolicProlongation.{sum_of-same}
 
 -- what the power of one variable gives

@@ -42,7 +42,7 @@ module _ {X Y : Type 0} (f : X → Y) where
   get_map (y ∷ ys) zero x e = ap f e
   get_map (y ∷ ys) (suc i) x e = get_map ys i x e
 
-  length_map : (xs : List X) → length (map f xs) ≡ length xs
+  pub length_map : (xs : List X) → length (map f xs) ≡ length xs
   length_map [] = refl
   length_map (x ∷ xs) = ap suc (length_map xs)
 

@@ -7,3 +7,10 @@ pub mod TotalSteps
 pub mod ChainRules
 pub mod TotalParts
 pub mod DerivativeLists
+pub mod Absolutes
+pub mod FormBounds
+pub mod FormCauses
+pub mod FormParts
+pub mod TotalBounds
+pub mod FormSteps
+pub mod FormKept

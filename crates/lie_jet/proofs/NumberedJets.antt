@@ -11,7 +11,7 @@ use Rattle.lie_jet.specs.Jets.{coordinate_of, IsJet, IsSmall}
 use Rattle.lie_jet.specs.declared.jet.Jet.{Jet}
 use Rattle.lie_jet.proofs.JetNumbers.{length_cut, one_more}
 
-rest_zeros : (p : ℕ) → p ≤ 4 → drop {A = ℕ} p (0 ∷ 0 ∷ 0 ∷ 0 ∷ []) ≡ replicate (4 - p) 0
+pub rest_zeros : (p : ℕ) → p ≤ 4 → drop {A = ℕ} p (0 ∷ 0 ∷ 0 ∷ 0 ∷ []) ≡ replicate (4 - p) 0
 rest_zeros zero h = refl
 rest_zeros (suc zero) h = refl
 rest_zeros (suc (suc zero)) h = refl

@@ -1,10 +1,10 @@
 -- Jets derived once more, and what variables become.
-use Rattle.std.specs.Prelude.{◌≡◌, ℕ, zero, suc, ◌+◌, ◌<◌, ◌≤◌, List, [], ◌∷◌, length, take, drop, slice_set, slice_index, pos}
-use Rattle.std.proofs.Common.{sym, ap, subst, ◌∙◌, arith, ◌⊎◌, inl, inr}
+use Rattle.std.specs.Prelude.{◌≡◌, ℕ, zero, suc, ◌+◌, ◌<◌, ◌≤◌, List, [], ◌∷◌, length, take, drop, slice_set, slice_index, pos, replicate}
+use Rattle.std.proofs.Common.{refl, sym, ap, subst, ◌∙◌, arith, ◌⊎◌, inl, inr}
 use Rattle.std.proofs.lemmas.List.{drop-set-lt, length-set}
 use Rattle.lie_math.specs.Counts.{order, raise}
 use Rattle.lie_math.specs.PartialDerivative.{partial}
-use Rattle.lie_math.specs.Polynomial.{0ᴾ, constant, variable}
+use Rattle.lie_math.specs.Polynomial.{WholePolynomial, 0ᴾ, constant, variable}
 use Rattle.lie_math.proofs.PartialDerivation.{partial-itself, partial-other}
 use Rattle.lie_math.proofs.Counts.{order_raise}
 use Rattle.lie_geometry.specs.Coordinates.{Space, Coordinate, IsCoordinate, order_of, jet, number, coordinate, coordinates_up_to}
@@ -14,6 +14,7 @@ use Rattle.lie_geometry.proofs.ProlongedFields.{total_of_independent, total_of_j
 use Rattle.lie_geometry.specs.Prolongation.{jet_variable, total_derivative}
 use Rattle.lie_jet.specs.Jets.{coordinate_of, IsJet, IsSmall}
 use Rattle.lie_jet.specs.declared.jet.Jet.{Jet}
+use Rattle.lie_jet.proofs.NumberedJets.{rest_zeros}
 
 -- one more at a place of the first p
 pub take_raised : (p i : ℕ) (xs : List ℕ) → i < p → i < length xs → take p (slice_set xs i (slice_index xs i + 1)) ≡ raise i (take p xs)
@@ -69,3 +70,22 @@ module _ (S : Space) (small : IsSmall S) where
 
   pub slope_elsewhere : (w i : ℕ) → w < S.p → ¬ (i ≡ w) → total_derivative S i (variable w) ≡ 0ᴾ
   slope_elsewhere w i h n = total_of_independent S small.some_p small.some_q i w h ∙ partial-other i w n
+
+-- ---- the jet of order 0
+take_zeros : (p : ℕ) → p ≤ 4 → take {A = ℕ} p (0 ∷ 0 ∷ 0 ∷ 0 ∷ []) ≡ replicate p 0
+take_zeros zero h = refl
+take_zeros (suc zero) h = refl
+take_zeros (suc (suc zero)) h = refl
+take_zeros (suc (suc (suc zero))) h = refl
+take_zeros (suc (suc (suc (suc zero)))) h = refl
+take_zeros (suc (suc (suc (suc (suc p))))) h = absurd (omega arith)
+
+zeros_order : (p : ℕ) → order (replicate p 0) ≡ 0
+zeros_order zero = refl
+zeros_order (suc p) = let h = zeros_order p in omega arith
+
+pub is_dependent : (S : Space) (b : ℕ) → IsSmall S → b < S.q → IsJet S 11 (record { dep = b; counts = 0 ∷ 0 ∷ 0 ∷ 0 ∷ [] })
+is_dependent S b small h = record { space = small; dependent = h; four = refl; rest = rest_zeros S.p small.few_p; low = subst (λ J. order J ≤ 11) (sym (take_zeros S.p small.few_p)) (let e = zeros_order S.p in omega arith) }
+
+pub dependent_raised : (S : Space) (b i n : ℕ) (c : Coordinate) (p : WholePolynomial) → IsSmall S → c ≡ jet b (raise i (take S.p (0 ∷ 0 ∷ 0 ∷ 0 ∷ []))) → n ≡ number S c → p ≡ variable n → p ≡ jet_variable S b (raise i (replicate S.p 0))
+dependent_raised S b i n c p small e h q = q ∙ ap variable (h ∙ ap (number S) (e ∙ ap (λ J. jet b (raise i J)) (take_zeros S.p small.few_p)))

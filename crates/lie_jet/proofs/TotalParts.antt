@@ -91,7 +91,7 @@ module _ (S : Space) (small : IsSmall S) (i : ℕ) (inside : i < S.p) where
   slope w = total_derivative S i (variable w)
 
   -- what any variable becomes is 0 or a monomial
-  some_slope : (w : ℕ) → (o : Option Monomial) × IsSlope o (slope w)
+  pub some_slope : (w : ℕ) → (o : Option Monomial) × IsSlope o (slope w)
   some_slope w = go (coordinate S w) refl
     where
       at_number : (j : ℕ) → coordinate S w ≡ independent j → j ≡ w
@@ -137,7 +137,7 @@ module _ (S : Space) (small : IsSmall S) (i : ℕ) (inside : i < S.p) where
       (subst (λ (xs : List (Monomial × ℤ)). IsCovered (total_derivative S i (term (get_or es k x).0 (pos (unsigned_abs (get_or es k x).1)))) (total_derivative S i (polynomial_of (absolutes xs)))) e (total_covered es k x h))
 
 -- ---- the terms of a polynomial
-entries_same : (xs : List (Monomial × ℤ)) → entries (λ z. z) xs ≡ xs
+pub entries_same : (xs : List (Monomial × ℤ)) → entries (λ z. z) xs ≡ xs
 entries_same [] = refl
 entries_same (x ∷ xs) = ap (λ ys. x ∷ ys) (entries_same xs)
 

@@ -2,3 +2,5 @@ pub mod Jets
 pub mod Slopes
 pub mod Listed
 pub mod Derivatives
+pub mod FormLimits
+pub mod FormTotals

@@ -1,21 +1,26 @@
 // Linear forms in derivatives of unknown functions.
-ghost use Rattle.std.specs.Prelude.{◌≡◌, ◌<◌, ◌≤◌, ◌↔◌, ◌++◌, length, take, drop, IsTrue, IfErr, OnOk};
+ghost use Rattle.std.specs.Prelude.{◌≡◌, ◌<◌, ◌≤◌, ◌↔◌, ◌++◌, length, take, drop, ◌∷◌, [], IsTrue, IfErr, IfOk, OnOk};
 ghost use Rattle.lie_math.specs.FiniteSum as finite;
 ghost use Rattle.lie_math.specs.Limits.{absolute};
-ghost use Rattle.lie_math.specs.LinearForm.{forms, no_form, ◌+ᶠ◌, form_term};
+ghost use Rattle.lie_math.specs.LinearForm.{forms, no_form, ◌+ᶠ◌, form_term, each_coefficient};
 ghost use Rattle.lie_math.specs.Polynomial.{WholePolynomial, ◌+ᴾ◌};
 ghost use Rattle.lie_math.specs.SortedSum.{add_at, put_new};
+ghost use Rattle.lie_systems.specs.Bulk.{IsWithinLimits, HasManyTriples};
 ghost use Rattle.lie_ring.specs.Causes.{IsCause};
 ghost use Rattle.lie_poly.specs.Failures.{IsStarved};
 ghost use Rattle.lie_jet.specs.Derivatives.{derivative_of, derivative_terms, GoesTo, GoesNoFurther, IsFirst, IsReplaced, HoldsAt};
 ghost use Rattle.lie_math.specs.FiniteSum.{IsCanonical};
 
 use crate::derivative::{Der, compare_derivatives};
+use crate::sizes::absolute_polynomial;
 use crate::totals::JetPoly;
 use lie_ring::{PolyFail, Polynomial};
 use std::alloc::Global;
 use std::cmp::Ordering;
 use std::marker::Model;
+
+/// The greatest number of triples of a form.
+const MAX_TRIPLES: u128 = 1_000_000;
 
 /// A linear form: distinct derivatives in printed order, each with a coefficient that is not 0.
 #[derive(Drop)]
@@ -64,6 +69,50 @@ impl SymForm {
         ensures kept { IfErr result (λ _. self.new ≡ self.old) }
     {
         put_term(&mut self.terms, alloc, der, poly)
+    }
+
+    /// The form with the absolute values of the coefficients of its polynomials.
+    pub fn absolute(&self, alloc: Global) -> Result<SymForm, PolyFail>
+        ensures sizes { IfOk result (λ form. form ≡ each_coefficient absolute self.now) }
+        ensures memory { IfErr result IsStarved }
+    {
+        let mut terms = Vec::new(alloc);
+        for term in self.terms.as_slice() {
+            push_absolute(&mut terms, alloc, term)?;
+        }
+        Ok(SymForm { terms })
+    }
+
+    /// Whether there are at most 1,000,000 triples of a derivative, a monomial and a number. Numbers and exponents are always
+    /// within the limits.
+    pub fn has_few_triples(&self) -> bool
+        ensures few { IsTrue result → IsWithinLimits self.now }
+        ensures many { (¬ (IsTrue result)) → HasManyTriples self.now }
+    {
+        let mut count: u128 = 0;
+        for term in self.terms.as_slice() {
+            count += term.1.len() as u128;
+        }
+        count <= MAX_TRIPLES
+    }
+}
+
+/// Puts a derivative with the absolute values of its coefficient behind others.
+fn push_absolute(
+    terms: &mut Vec<(Der, JetPoly)>,
+    alloc: Global,
+    term: &(Der, JetPoly),
+) -> Result<(), PolyFail>
+    ensures pushed { OnOk result (terms.new.items ≡ terms.old.items ++ (term.now.0, absolute term.now.1) ∷ []) }
+    ensures memory { IfErr result IsStarved }
+{
+    let sizes = match absolute_polynomial(alloc, &term.1) {
+        Ok(sizes) => sizes,
+        Err(fail) => return Err(fail),
+    };
+    match terms.push((term.0, sizes)) {
+        Ok(()) => Ok(()),
+        Err(_) => Err(PolyFail::NoMemory),
     }
 }
 

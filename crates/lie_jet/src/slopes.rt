@@ -50,7 +50,7 @@ pub fn slope_of(alloc: Global, space: Space, i: u8, var: u32) -> Result<Option<M
 }
 
 /// A variable alone.
-fn single(alloc: Global, var: u32) -> Result<Mono, PolyFail>
+pub fn single(alloc: Global, var: u32) -> Result<Mono, PolyFail>
     ensures single { IfOk result (λ mono. mono ≡ variable_alone var) }
     ensures memory { IfErr result IsStarved }
 {

@@ -1,9 +1,11 @@
 // Numbers of jets, total derivatives and forms, as tables.
-ghost use Rattle.std.specs.Prelude.{IsTrue};
+ghost use Rattle.std.specs.Prelude.{IsTrue, IfOk};
 ghost use Rattle.lie_math.specs.Derivation.{is_below};
+ghost use Rattle.lie_math.specs.Variables.{IsIn};
 ghost use Rattle.lie_math.proofs.Kept.{pairs_in};
 
-use crate::{Der, Field, Jet, JetPoly, Space, SymForm, jet_number, jet_of, total};
+use crate::derivative::raise_derivative;
+use crate::{Der, Field, Jet, JetPoly, Space, SymForm, jet_number, jet_of, total, total_sym};
 use lie_ring::{Mono, Polynomial, Ring, Whole};
 use std::alloc::Global;
 use std::test::Fail;
@@ -60,26 +62,26 @@ fn has_terms(alloc: Global, p: &JetPoly, want: Terms) -> bool {
     }
 }
 
-/// Whether the total derivative by x of a product of powers is this, for one variable of each kind.
-fn is_total(alloc: Global, pairs: &[(u32, u32)], want: Terms) -> bool
+/// One variable of each kind.
+const PLANE: Space = Space { p: 1, q: 1 };
+
+/// A product of powers of jets of order at most 11.
+fn product(alloc: Global, pairs: &[(u32, u32)]) -> Result<JetPoly, Fail>
+    requires { IsTrue (pairs_in (is_below 13) pairs.now) }
+    ensures { IfOk result (λ p. IsIn (is_below 13) p) }
+{
+    let mono = Mono::new(alloc, pairs)?.ok_or("pairs in order")?;
+    let terms = vec![in alloc; (mono, Whole::one())]?;
+    Ok(JetPoly::of_terms(alloc, terms.as_slice())?)
+}
+
+/// Whether the total derivative by x of a product of powers is this.
+fn is_total(alloc: Global, pairs: &[(u32, u32)], want: Terms) -> Result<bool, Fail>
     requires { IsTrue (pairs_in (is_below 13) pairs.now) }
 {
-    let mono = match Mono::new(alloc, pairs) {
-        Ok(Some(mono)) => mono,
-        _ => return false,
-    };
-    let mut terms = Vec::new(alloc);
-    if terms.push((mono, Whole::one())).is_err() {
-        return false;
-    }
-    let p = match JetPoly::of_terms(alloc, terms.as_slice()) {
-        Ok(p) => p,
-        Err(_) => return false,
-    };
-    match total(alloc, Space { p: 1, q: 1 }, 0, &p) {
-        Ok(derived) => has_terms(alloc, &derived, want),
-        Err(_) => false,
-    }
+    let p = product(alloc, pairs)?;
+    let derived = total(alloc, PLANE, 0, &p)?;
+    Ok(has_terms(alloc, &derived, want))
 }
 
 #[test]
@@ -90,14 +92,14 @@ fn totals_of_products(rt: HostRuntime) -> Result<(), Fail> {
             alloc,
             &[(0, 1), (2, 2)],
             &[(&[(0, 1), (2, 1), (3, 1)], 2), (&[(2, 2)], 1)]
-        )
+        )?
     );
     assert!(rt;
         is_total(
             alloc,
             &[(0, 1), (1, 1)],
             &[(&[(0, 1), (2, 1)], 1), (&[(1, 1)], 1)]
-        )
+        )?
     );
     Ok(())
 }
@@ -139,5 +141,42 @@ fn fields_keep_their_parts(rt: HostRuntime) -> Result<(), Fail> {
     assert_eq!(rt; field.den(), 2);
     assert_eq!(rt; field.parts().len(), 1);
     assert_eq!(rt; field.into_parts().len(), 1);
+    Ok(())
+}
+
+/// The second unknown.
+const SECOND: Der = Der {
+    unknown: 2,
+    counts: [0; 8],
+};
+
+/// The total derivative by x of a product of powers times the second unknown.
+fn form_total(alloc: Global, pairs: &[(u32, u32)]) -> Result<SymForm, Fail>
+    requires { IsTrue (pairs_in (is_below 13) pairs.now) }
+{
+    let mut form = SymForm::zero(alloc);
+    let p = product(alloc, pairs)?;
+    form.put(alloc, SECOND, p)?;
+    Ok(total_sym(alloc, PLANE, 0, &form)?)
+}
+
+#[test]
+fn total_of_a_form(rt: HostRuntime) -> Result<(), Fail> {
+    let alloc = rt.alloc();
+    let derived = form_total(alloc, &[(0, 1), (1, 1)])?;
+    let terms = derived.terms();
+    assert_eq!(rt; terms.len(), 3);
+    assert_eq!(rt; terms[0].0, raise_derivative(&SECOND, 0));
+    assert!(rt; has_terms(alloc, &terms[0].1, &[(&[(0, 1), (1, 1)], 1)]));
+    assert_eq!(rt; terms[1].0, raise_derivative(&SECOND, 1));
+    assert!(rt; has_terms(alloc, &terms[1].1, &[(&[(0, 1), (1, 1), (2, 1)], 1)]));
+    assert_eq!(rt; terms[2].0, SECOND);
+    assert!(rt;
+        has_terms(
+            alloc,
+            &terms[2].1,
+            &[(&[(0, 1), (2, 1)], 1), (&[(1, 1)], 1)]
+        )
+    );
     Ok(())
 }
