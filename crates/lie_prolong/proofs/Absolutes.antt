@@ -1,0 +1,192 @@
+-- Absolute values of coefficients, and what they bound.
+use Rattle.std.specs.Prelude.{◌≡◌, ℕ, zero, suc, ◌≤◌, Bool, true, false, cond, List, [], ◌∷◌, map, length, All, ℤ, pos, negsuc, ◌+ℤ◌, unsigned_abs}
+use Rattle.std.proofs.Common.{refl, sym, ap, ap₂, subst, ◌∙◌, arith, get_or}
+use Rattle.std.specs.Ordering.{eq_by_cmp}
+use borrow.Author.Differences.{ints}
+use Rattle.lie_math.specs.Canonical.{value_at-tail}
+use Rattle.lie_math.specs.Codes.{same_vector_field}
+use Rattle.lie_math.specs.VectorField.{VectorField, component}
+use Rattle.lie_math.specs.Variables.{IsIn}
+use Rattle.lie_math.proofs.Variables.{in-0ᴾ}
+use Rattle.lie_geometry.specs.Coordinates.{Space}
+use Rattle.lie_geometry.specs.Invariance.{IsFieldOn}
+use Rattle.lie_geometry.specs.Prolongation.{InZ, is_in_z}
+use Rattle.lie_ring.specs.Entries.{entries}
+use Rattle.lie_prolong.specs.Bulks.{absolute_field}
+use Rattle.lie_math.specs.Derivation.{sum_of}
+use Rattle.lie_math.specs.FiniteSumLaws.{value-of, value-plus, value-none, ext, of_list}
+use Rattle.lie_math.specs.Integer.{coefficients}
+use Rattle.lie_math.specs.Limits.{absolutes, absolute, IsWithinLimits}
+use Rattle.lie_math.specs.Monomial.{Monomial, monomial_cmp}
+use Rattle.lie_math.specs.MonomialOrder.{monomial_cmp_total, monomial_cmp-IsAntisymmetric}
+use Rattle.lie_math.specs.Polynomial.{WholePolynomial, terms, coefficient, polynomial_of, 0ᴾ, ◌+ᴾ◌, ◌*ᴾ◌, constant, negᴾ}
+use Rattle.lie_math.specs.PolynomialRing.{negᴾ_l, one-*ᴾ}
+use Rattle.lie_math.proofs.Limits.{at, IsCovered, IsNonNegative, within_covered, nonneg_none}
+use Rattle.lie_poly.proofs.BulkLists.{Bounds}
+use Rattle.lie_math.specs.FiniteSum.{IsCanonical}
+use Rattle.lie_math.proofs.CanonicalLists.{canonical_below, canonical_tail}
+
+-- ---- the coefficients of the absolute value
+at_absolutes : (m : Monomial) (es : List (Monomial × ℤ)) → IsCanonical terms es → at m (absolutes es) ≡ pos (unsigned_abs (at m es))
+at_absolutes m [] h = refl
+at_absolutes m (e ∷ es) h = by (eq_by_cmp monomial_cmp m e.0) e.1 _ _ (at_absolutes m es (canonical_tail terms e es h)) (value_at-tail monomial_cmp coefficients monomial_cmp_total monomial_cmp-IsAntisymmetric m e es (canonical_below terms e es h))
+  where
+    by : (t : Bool) (a x y : ℤ) → y ≡ pos (unsigned_abs x) → x ≡ cond t (pos 0) (cond t a (pos 0) +ℤ x) → cond t (pos (unsigned_abs a)) (pos 0) +ℤ y ≡ pos (unsigned_abs (cond t a (pos 0) +ℤ x))
+    by true a x y e f = omega (arith, ints)
+    by false a x y e f = omega (arith, ints)
+
+pub coefficient-absolute : (p : WholePolynomial) (m : Monomial) → coefficient (absolute p) m ≡ pos (unsigned_abs (coefficient p m))
+unfolding absolute
+coefficient-absolute p m = value-of terms (absolutes p.list) m ∙ at_absolutes m p.list p.canonical ∙ ap (λ z. pos (unsigned_abs z)) (sym (value-of terms p.list m) ∙ ap (λ q. coefficient q m) (of_list terms p))
+
+-- ---- p is bounded by b, which has no negative coefficient
+pub record IsBounded (p b : WholePolynomial) : Type 0 where
+  pub bounds : (m : Monomial) → Bounds (coefficient p m) (coefficient b m)
+
+pub bounded_covered : (p b : WholePolynomial) → IsBounded p b → IsCovered p b
+bounded_covered p b h = record { at_most = λ m. (h.bounds m).covered }
+
+pub bounded_plain : (p b : WholePolynomial) → IsBounded p b → IsNonNegative b
+bounded_plain p b h = record { plain = λ m. (h.bounds m).plain }
+
+pub bounded_absolute : (p : WholePolynomial) → IsBounded p (absolute p)
+bounded_absolute p = record { bounds = λ m. here (coefficient p m) (coefficient (absolute p) m) (coefficient-absolute p m) }
+  where
+    here : (x y : ℤ) → y ≡ pos (unsigned_abs x) → Bounds x y
+    here x y e = record { covered = omega (arith, ints); plain = omega (arith, ints) }
+
+-- so is its absolute value
+pub absolute_bounded : (p b : WholePolynomial) → IsBounded p b → IsBounded (absolute p) b
+absolute_bounded p b h = record { bounds = λ m. here (coefficient p m) _ _ (coefficient-absolute p m) (h.bounds m) }
+  where
+    here : (x y z : ℤ) → y ≡ pos (unsigned_abs x) → Bounds x z → Bounds y z
+    here x y z e h = record { covered = let k = h.covered in omega (arith, ints); plain = h.plain }
+
+pub absolute_covered : (p : WholePolynomial) → IsCovered (absolute p) p
+absolute_covered p = record { at_most = λ m. here (coefficient p m) _ (coefficient-absolute p m) }
+  where
+    here : (x y : ℤ) → y ≡ pos (unsigned_abs x) → unsigned_abs y ≤ unsigned_abs x
+    here x y e = omega (arith, ints)
+
+pub absolute_within : (p : WholePolynomial) → IsWithinLimits p → IsWithinLimits (absolute p)
+absolute_within p w = within_covered (absolute p) p (absolute_covered p) w
+
+pub absolute-nonneg : (p : WholePolynomial) → IsNonNegative p → absolute p ≡ p
+absolute-nonneg p h = ext terms (absolute p) p (λ m. coefficient-absolute p m ∙ sym (h.plain m))
+
+pub absolute-absolute : (p : WholePolynomial) → absolute (absolute p) ≡ absolute p
+absolute-absolute p = absolute-nonneg (absolute p) (bounded_plain p (absolute p) (bounded_absolute p))
+
+-- ---- sums
+pub bounded_sum : (p q b d : WholePolynomial) → IsBounded p b → IsBounded q d → IsBounded (p +ᴾ q) (b +ᴾ d)
+bounded_sum p q b d h k = record { bounds = λ m. here _ _ _ _ _ _ (value-plus terms p q m) (value-plus terms b d m) (h.bounds m) (k.bounds m) }
+  where
+    here : (x y u v s t : ℤ) → s ≡ x +ℤ y → t ≡ u +ℤ v → Bounds x u → Bounds y v → Bounds s t
+    here x y u v s t e f h k = record {
+      covered = let a = h.covered in let b = h.plain in let c = k.covered in let d = k.plain in omega (arith, ints);
+      plain = let b = h.plain in let d = k.plain in omega (arith, ints);
+    }
+
+pub bounded_none : IsBounded 0ᴾ 0ᴾ
+bounded_none = record { bounds = λ m. here _ (value-none terms m) }
+  where
+    here : (x : ℤ) → x ≡ pos 0 → Bounds x x
+    here x e = record { covered = omega arith; plain = omega (arith, ints) }
+
+pub bounded_sum_of : (is : List ℕ) (f g : ℕ → WholePolynomial) → ((i : ℕ) → IsBounded (f i) (g i)) → IsBounded (sum_of is f) (sum_of is g)
+bounded_sum_of [] f g h = bounded_none
+bounded_sum_of (i ∷ is) f g h = bounded_sum (f i) (sum_of is f) (g i) (sum_of is g) (h i) (bounded_sum_of is f g h)
+
+-- a sum of polynomials without negative coefficients bounds what the first bounds
+pub bounded_more : (p b d : WholePolynomial) → IsBounded p b → IsNonNegative d → IsBounded p (b +ᴾ d)
+bounded_more p b d h k = record { bounds = λ m. here _ _ _ _ (value-plus terms b d m) (h.bounds m) (k.plain m) }
+  where
+    here : (x u v t : ℤ) → t ≡ u +ℤ v → Bounds x u → v ≡ pos (unsigned_abs v) → Bounds x t
+    here x u v t f h k = record {
+      covered = let a = h.covered in let b = h.plain in omega (arith, ints);
+      plain = let b = h.plain in omega (arith, ints);
+    }
+
+-- ---- what is left of a bound
+pub left_over : WholePolynomial → WholePolynomial → WholePolynomial
+left_over p b = b +ᴾ negᴾ (absolute p)
+
+cancelled : (p b : WholePolynomial) (m : Monomial) → coefficient (left_over p b) m +ℤ pos (unsigned_abs (coefficient p m)) ≡ coefficient b m
+unfolding left_over
+cancelled p b m = here _ _ _ (coefficient p m) _ (value-plus terms b (negᴾ (absolute p)) m) (sym (value-plus terms (negᴾ (absolute p)) (absolute p) m) ∙ ap (λ q. coefficient q m) (negᴾ_l (absolute p)) ∙ value-none terms m) (coefficient-absolute p m)
+  where
+    here : (b n a x s : ℤ) → s ≡ b +ℤ n → n +ℤ a ≡ pos 0 → a ≡ pos (unsigned_abs x) → s +ℤ pos (unsigned_abs x) ≡ b
+    here b n a x s e f g = omega (arith, ints)
+
+pub left_over_plain : (p b : WholePolynomial) → IsBounded p b → IsNonNegative (left_over p b)
+left_over_plain p b h = record { plain = λ m. here _ _ _ (cancelled p b m) (h.bounds m) }
+  where
+    here : (s x y : ℤ) → s +ℤ pos (unsigned_abs x) ≡ y → Bounds x y → s ≡ pos (unsigned_abs s)
+    here s x y e h = let a = h.covered in let b = h.plain in omega (arith, ints)
+
+pub left_over_sum : (p b : WholePolynomial) → absolute p +ᴾ left_over p b ≡ b
+left_over_sum p b = ext terms (absolute p +ᴾ left_over p b) b (λ m. here _ _ (coefficient p m) _ _ (value-plus terms (absolute p) (left_over p b) m) (coefficient-absolute p m) (cancelled p b m))
+  where
+    here : (a s x y t : ℤ) → t ≡ a +ℤ s → a ≡ pos (unsigned_abs x) → s +ℤ pos (unsigned_abs x) ≡ y → t ≡ y
+    here a s x y t e f g = omega (arith, ints)
+
+-- ---- as lists
+entries_same : (xs : List (Monomial × ℤ)) → entries (λ z. z) xs ≡ xs
+entries_same [] = refl
+entries_same (x ∷ xs) = ap (λ ys. x ∷ ys) (entries_same xs)
+
+pub absolute_listed : (p : WholePolynomial) (xs ys : List (Monomial × ℤ)) → entries (λ z. z) xs ≡ p.list → ys ≡ absolutes xs → polynomial_of (entries (λ z. z) ys) ≡ absolute p
+unfolding absolute
+absolute_listed p xs ys e f = ap polynomial_of (entries_same ys ∙ f ∙ ap absolutes (sym (entries_same xs) ∙ e))
+
+pub absolute_field_is : (V W : VectorField) → W.denominator ≡ V.denominator → W.parts ≡ map absolute V.parts → W ≡ absolute_field V
+absolute_field_is V W e f = same_vector_field W (absolute_field V) (ap₂ (λ d ps. (d, ps)) e f)
+
+pub absolute_in : (T : ℕ → Bool) (p : WholePolynomial) → IsIn T p → IsIn T (absolute p)
+absolute_in T p h v out m n = h v out m (λ z. n (coefficient-absolute p m ∙ ap (λ c. pos (unsigned_abs c)) z))
+
+-- ---- a sign
+pub bounded_negative : (p b : WholePolynomial) → IsBounded p b → IsBounded (negᴾ p) b
+bounded_negative p b h = record { bounds = λ m. here _ _ _ (sym (value-plus terms (negᴾ p) p m) ∙ ap (λ q. coefficient q m) (negᴾ_l p) ∙ value-none terms m) (h.bounds m) }
+  where
+    here : (n x y : ℤ) → n +ℤ x ≡ pos 0 → Bounds x y → Bounds n y
+    here n x y e h = record { covered = let k = h.covered in omega (arith, ints); plain = h.plain }
+
+pub bounded_signed : (z : ℤ) (p b : WholePolynomial) → unsigned_abs z ≡ 1 → IsBounded p b → IsBounded (constant z *ᴾ p) b
+bounded_signed (pos n) p b e h = subst (λ k. IsBounded (constant (pos k) *ᴾ p) b) (sym e) (subst (λ q. IsBounded q b) (sym (one-*ᴾ p)) h)
+bounded_signed (negsuc n) p b e h = subst (λ k. IsBounded (constant (negsuc k) *ᴾ p) b) (none e) (bounded_negative p b h)
+  where
+    none : unsigned_abs (negsuc n) ≡ 1 → 0 ≡ n
+    none e = omega arith
+
+-- ---- the components of the field with absolute values
+absolute-none : absolute 0ᴾ ≡ 0ᴾ
+absolute-none = absolute-nonneg 0ᴾ nonneg_none
+
+pub component-absolute : (V : VectorField) (s : ℕ) → component (absolute_field V) s ≡ absolute (component V s)
+component-absolute V s = go V.parts s
+  where
+    go : (ps : List WholePolynomial) (s : ℕ) → get_or (map absolute ps) s 0ᴾ ≡ absolute (get_or ps s 0ᴾ)
+    go [] s = sym absolute-none
+    go (p ∷ ps) zero = refl
+    go (p ∷ ps) (suc s) = go ps s
+
+pub component_in_z : (S : Space) (V : VectorField) → IsFieldOn S V → (s : ℕ) → InZ S (component V s)
+component_in_z S V h s = go V.parts s h.in_z
+  where
+    go : (ps : List WholePolynomial) (s : ℕ) → All (InZ S) ps → InZ S (get_or ps s 0ᴾ)
+    go [] s k = in-0ᴾ (is_in_z S)
+    go (p ∷ ps) zero k = k 0 0ᴾ (omega arith)
+    go (p ∷ ps) (suc s) k = go ps s (λ i d l. k (suc i) d (omega arith))
+
+pub absolute_on : (S : Space) (V W : VectorField) → W ≡ absolute_field V → IsFieldOn S V → IsFieldOn S W
+absolute_on S V W e h = subst (IsFieldOn S) (sym e) (record { positive = h.positive; size = same V.parts ∙ h.size; in_z = all V.parts h.in_z })
+  where
+    same : (ps : List WholePolynomial) → length (map absolute ps) ≡ length ps
+    same [] = refl
+    same (p ∷ ps) = ap suc (same ps)
+
+    all : (ps : List WholePolynomial) → All (InZ S) ps → All (InZ S) (map absolute ps)
+    all [] h k d l = absurd (omega arith)
+    all (p ∷ ps) h zero d l = absolute_in (is_in_z S) p (h 0 p (omega arith))
+    all (p ∷ ps) h (suc k) d l = all ps (λ i d l. h (suc i) d (omega arith)) k d (omega arith)

@@ -1,0 +1,72 @@
+use Rattle.std.proofs.Common.{ℕ, ap, arith, sym, subst, ◌∙◌, ◌≡◌, ◌<◌, ◌+◌, ◌++◌, ◌∷◌, [], List, map, length, take, get_or}
+use Rattle.std.proofs.lemmas.Result.{err_from_is_err_and}
+use Rattle.lie_math.specs.LinearForm.{LinearForm}
+use Rattle.lie_geometry.specs.Coordinates.{Space}
+use Rattle.lie_geometry.specs.SymbolicProlongation.{symbolic_coefficient_at}
+use Rattle.lie_systems.specs.Bulk.{IsWithinLimits}
+use Rattle.lie_jet.specs.FormLimits.{IsFormCause}
+use Rattle.lie_poly.proofs.TimesSteps.{all_taken, length-take_in}
+use Rattle.lie_jet.specs.Jets.{IsSmall}
+use Rattle.lie_jet.specs.declared.jet.Jet.{Jet}
+use Rattle.lie_prolong.specs.SymbolicBulks.{symbolic_bulk_at}
+use Rattle.lie_prolong.specs.JetLists.{AreJetsUpTo}
+use Rattle.lie_prolong.proofs.JetLists.{number_at, values_more, values_all, holds_more, holds_all, fails_first, fails_at_once}
+use Rattle.std.proofs.lemmas.Grind.{common_steps}
+use Rattle.std.proofs.lemmas.List.{map_push, length-map, take_more}
+use Rattle.lie_prolong.proofs.symbolic.prolong_sym.Goals as goal
+use Rattle.lie_prolong.proofs.symbolic.prolong_sym.Goals.{After-space, After-deref-jet-items}
+
+small : (c : After-space) → IsSmall c.args.space
+small c =
+    let p : c.space.inside.p ≡ c.args.space.p = ap (λ (s : Space). s.p) c.space.view_is in
+    let q : c.space.inside.q ≡ c.args.space.q = ap (λ (s : Space). s.q) c.space.view_is in
+    record { some_p = omega arith; few_p = omega arith; some_q = omega arith; few_q = omega arith }
+
+jets : (c : After-deref-jet-items) → AreJetsUpTo c.args.space c.args.order c.deref-jet-items.result.now
+jets c = subst (AreJetsUpTo c.args.space c.args.order) (sym c.deref-jet-items.ensures.value) c.in-Ok.ensures
+
+counted : (made : List (Jet × LinearForm)) (js : List Jet) (i : ℕ) → map (λ v. v.0) made ≡ take i js → i < length js → length made ≡ i
+counted made js i e h = sym (length-map made (λ (v : Jet × LinearForm). v.0)) ∙ ap length e ∙ length-take_in js i (omega arith)
+
+pub returns-in-Err-clause-past : goal.returns-in-Err-clause-past
+returns-in-Err-clause-past c = fails_at_once c.args.space c.args.order _ _ (small (goal.at.returns-in-Err-clause-past c).After-space) (λ _. tt)
+
+pub returns-then-is_err-clause-past : goal.returns-then-is_err-clause-past
+returns-then-is_err-clause-past c = fails_at_once c.args.space c.args.order _ _ (small (goal.at.returns-then-is_err-clause-past c).After-space) (λ _. tt)
+
+pub symbolic_coefficient-requires-clause-next : goal.symbolic_coefficient-requires-clause-next
+symbolic_coefficient-requires-clause-next c =
+    let k = (goal.at.symbolic_coefficient-requires-clause-next c).After-deref-jet-items in
+    number_at c.args.space c.args.order c.deref-jet-items.result.now (jets k) c.loop-jet.jet-index _ c.loop-jet-test.true
+    ∙ ap (λ n. c.args.space.p + n) (sym (ap length c.as_slice.ensures.value ∙ counted c.loop-jet.made.items c.deref-jet-items.result.now c.loop-jet.jet-index c.loop-jet.invariant.jets c.loop-jet-test.true))
+
+pub returns-in_err-next-clause-past : goal.returns-in_err-next-clause-past
+returns-in_err-next-clause-past c =
+    let k = (goal.at.returns-in_err-next-clause-past c).After-deref-jet-items in
+    let p = err_from_is_err_and c.from_residual.result c.from_residual.ensures.1 in
+    rw (p.1, p.2) (fails_first c.args.space c.args.order c.deref-jet-items.result.now (jets k) (λ x. IsWithinLimits (symbolic_bulk_at c.args.space x)) (λ x. IsFormCause c.in_err-next.field-0.0 (symbolic_bulk_at c.args.space x)) c.loop-jet.jet-index _ c.loop-jet.invariant.fits c.loop-jet-test.true c.in_err-next.ensures.past)
+
+pub loop-jet-preserved : goal.loop-jet-preserved
+loop-jet-preserved c =
+    let k = (goal.at.loop-jet-preserved c).After-deref-jet-items in
+    let S = c.args.space in
+    let js = c.deref-jet-items.result.now in
+    let i = c.loop-jet.jet-index in
+    let jet : Jet = get_or js i (record { dep = 0; counts = [] }) in
+    let pushed : c.push.new.self.items ≡ c.loop-jet.made.items ++ (jet, c.in_ok-next.next) ∷ [] = grind (arith, common_steps) in
+    record {
+      jets = ap (map (λ (v : Jet × LinearForm). v.0)) pushed ∙ map_push (λ (v : Jet × LinearForm). v.0) c.loop-jet.made.items (jet, c.in_ok-next.next) ∙ ap (λ xs. xs ++ jet ∷ []) c.loop-jet.invariant.jets ∙ sym (take_more js i _ c.loop-jet-test.true);
+      values = values_more S c.args.order js (jets k) (symbolic_coefficient_at S) c.loop-jet.made.items c.push.new.self.items i _ (jet, c.in_ok-next.next) c.loop-jet.invariant.values (counted c.loop-jet.made.items js i c.loop-jet.invariant.jets c.loop-jet-test.true) c.loop-jet-test.true c.in_ok-next.ensures.coefficient pushed;
+      fits = holds_more S c.args.order js (jets k) (λ x. IsWithinLimits (symbolic_bulk_at S x)) i _ c.loop-jet.invariant.fits c.loop-jet-test.true c.in_ok-next.ensures.fits;
+    }
+
+pub returns-clause-coefficients : goal.returns-clause-coefficients
+returns-clause-coefficients c =
+    let k = (goal.at.returns-clause-coefficients c).After-deref-jet-items in
+    let js = c.deref-jet-items.result.now in
+    values_all c.args.space c.args.order js (jets k) (symbolic_coefficient_at c.args.space) c.loop-jet.made.items (c.loop-jet.invariant.jets ∙ all_taken js c.loop-jet.jet-index c.loop-jet-test.false) c.loop-jet.invariant.values
+
+pub returns-clause-fits : goal.returns-clause-fits
+returns-clause-fits c =
+    let k = (goal.at.returns-clause-fits c).After-deref-jet-items in
+    holds_all c.args.space c.args.order c.deref-jet-items.result.now (jets k) (λ x. IsWithinLimits (symbolic_bulk_at c.args.space x)) c.loop-jet.jet-index c.loop-jet.invariant.fits c.loop-jet-test.false

@@ -1,0 +1,4 @@
+pub mod JetLists
+pub mod Bulks
+pub mod Lowered
+pub mod SymbolicBulks

@@ -1,0 +1,172 @@
+// One prolonged coefficient, made from the one before it.
+ghost use Rattle.std.specs.Prelude.{◌≡◌, ◌+◌, ◌<◌, pos, ℤ, unsigned_abs, length, take, IfOk, IfErr, OnOk};
+ghost use Rattle.lie_math.specs.Derivation.{is_below};
+ghost use Rattle.lie_math.specs.Limits.{IsWithinLimits, absolute};
+ghost use Rattle.lie_math.specs.Polynomial.{constant, variable as variable_polynomial, negᴾ, ◌+ᴾ◌, ◌*ᴾ◌};
+ghost use Rattle.lie_math.specs.VectorField.{component};
+ghost use Rattle.lie_math.specs.Variables.{IsIn};
+ghost use Rattle.lie_geometry.specs.Coordinates.{coordinates_up_to, number as number_of};
+ghost use Rattle.lie_geometry.specs.Invariance.{IsFieldOn};
+ghost use Rattle.lie_geometry.specs.Prolongation.{total_derivative, coefficient_at};
+ghost use Rattle.lie_ring.specs.Causes.{IsCause};
+ghost use Rattle.lie_jet.specs.Jets.{coordinate_of, IsJet, IsSmall};
+ghost use Rattle.lie_prolong.specs.Bulks.{absolute_field, multiples, bulk_at};
+ghost use Rattle.lie_prolong.specs.JetLists.{AreFirstValues};
+
+use crate::absolute::absolute_polynomial;
+use crate::lowering::lowered;
+use lie_jet::{Field, Jet, JetPoly, Space, jet_number, raise_jet, total};
+use lie_ring::{Mono, NoMemory, PolyFail, Polynomial, Ring, Whole};
+use std::alloc::Global;
+
+/// The prolonged coefficient at the jet, where those at all jets before it are given, and the field with absolute values.
+pub fn coefficient(
+    alloc: Global,
+    space: Space,
+    field: &Field,
+    sizes: &Field,
+    before: &[(Jet, JetPoly)],
+    jet: &Jet,
+) -> Result<JetPoly, PolyFail>
+    requires field { IsFieldOn space field.now }
+    requires sizes { sizes.now ≡ absolute_field field.now }
+    requires before { AreFirstValues space (coefficient_at space (component field.now)) before.now }
+    requires jet { IsJet space 12 jet.now }
+    requires next { number_of space (coordinate_of space jet.now) ≡ space.p + length before.now }
+    ensures coefficient { IfOk result (λ made. made ≡ coefficient_at space (component field.now) (coordinate_of space jet.now)) }
+    ensures fits { OnOk result (IsWithinLimits (bulk_at space (component field.now) (coordinate_of space jet.now))) }
+    ensures past { IfErr result (λ fail. IsCause fail (bulk_at space (component field.now) (coordinate_of space jet.now))) }
+{
+    match lowered(space, jet) {
+        Some((k, lower)) => {
+            let place = jet_number(space, &lower) - u32::from(space.p);
+            derived(
+                alloc,
+                space,
+                field,
+                sizes,
+                k,
+                &lower,
+                &before[place as usize].1,
+            )
+        }
+        None => copy_part(alloc, &field.parts()[usize::from(space.p + jet.dep)]),
+    }
+}
+
+/// An equal polynomial.
+fn copy_part(alloc: Global, part: &JetPoly) -> Result<JetPoly, PolyFail>
+    ensures value { IfOk result (λ made. made ≡ part.now) }
+    ensures fits { OnOk result (IsWithinLimits (absolute part.now)) }
+    ensures past { IfErr result (λ fail. IsCause fail (absolute part.now)) }
+{
+    let _ = part.len();
+    match part.copy(alloc) {
+        Ok(made) => Ok(made),
+        Err(NoMemory) => Err(PolyFail::NoMemory),
+    }
+}
+
+/// The step of the recursion from the coefficient at the jet to the one at the jet derived by `k`: first with absolute values,
+/// where nothing cancels, and then truly.
+fn derived(
+    alloc: Global,
+    space: Space,
+    field: &Field,
+    sizes: &Field,
+    k: u8,
+    jet: &Jet,
+    before: &JetPoly,
+) -> Result<JetPoly, PolyFail>
+    requires within { k < space.p }
+    requires field { IsFieldOn space field.now }
+    requires sizes { sizes.now ≡ absolute_field field.now }
+    requires jet { IsJet space 11 jet.now }
+    requires low { IsIn (is_below (coordinates_up_to space 11)) before.now }
+    ensures value { IfOk result (λ made. made ≡ total_derivative space k before.now +ᴾ negᴾ (multiples space (component field.now) k jet.now.dep (take space.p jet.now.counts))) }
+    ensures fits { OnOk result (IsWithinLimits (total_derivative space k (absolute before.now) +ᴾ multiples space (λ i. absolute (component field.now i)) k jet.now.dep (take space.p jet.now.counts))) }
+    ensures past { IfErr result (λ fail. IsCause fail (total_derivative space k (absolute before.now) +ᴾ multiples space (λ i. absolute (component field.now i)) k jet.now.dep (take space.p jet.now.counts))) }
+{
+    let size = match absolute_polynomial(alloc, before) {
+        Ok(size) => size,
+        Err(NoMemory) => return Err(PolyFail::NoMemory),
+    };
+    let bulk = step(alloc, space, sizes, k, jet, &size, Whole::one())?;
+    let _ = bulk.len();
+    step(alloc, space, field, k, jet, before, Whole::one().neg())
+}
+
+/// The total derivative by `k`, plus the sign, 1 or -1, times the sum of the multiples.
+fn step(
+    alloc: Global,
+    space: Space,
+    field: &Field,
+    k: u8,
+    jet: &Jet,
+    before: &JetPoly,
+    sign: Whole,
+) -> Result<JetPoly, PolyFail>
+    requires within { k < space.p }
+    requires field { IsFieldOn space field.now }
+    requires jet { IsJet space 11 jet.now }
+    requires low { IsIn (is_below (coordinates_up_to space 11)) before.now }
+    requires unit { unsigned_abs sign ≡ 1 }
+    ensures value { IfOk result (λ made. made ≡ total_derivative space k before.now +ᴾ constant sign *ᴾ multiples space (component field.now) k jet.now.dep (take space.p jet.now.counts)) }
+    ensures past { IfErr result (λ fail. IsCause fail (total_derivative space k (absolute before.now) +ᴾ multiples space (λ i. absolute (component field.now i)) k jet.now.dep (take space.p jet.now.counts))) }
+{
+    let derivative = total(alloc, space, k, before)?;
+    let sum = sum_of_multiples(alloc, space, field, k, jet)?;
+    derivative.add(alloc, &sum.scale(alloc, &sign)?)
+}
+
+/// The sum, over the independent variables, of the total derivatives of the components times the jet derived once more.
+fn sum_of_multiples(
+    alloc: Global,
+    space: Space,
+    field: &Field,
+    k: u8,
+    jet: &Jet,
+) -> Result<JetPoly, PolyFail>
+    requires within { k < space.p }
+    requires field { IsFieldOn space field.now }
+    requires jet { IsJet space 11 jet.now }
+    ensures sum { IfOk result (λ made. made ≡ multiples space (component field.now) k jet.now.dep (take space.p jet.now.counts)) }
+    ensures past { IfErr result (λ fail. IsCause fail (multiples space (λ i. absolute (component field.now i)) k jet.now.dep (take space.p jet.now.counts))) }
+{
+    let mut sum = JetPoly::zero(alloc);
+    for i in 0..space.p {
+        let raised = jet_number(space, &raise_jet(space, jet, i));
+        let part = multiple(alloc, space, &field.parts()[usize::from(i)], k, raised)?;
+        sum = part.add(alloc, &sum)?;
+    }
+    Ok(sum)
+}
+
+/// The total derivative of a polynomial, times a variable.
+fn multiple(alloc: Global, space: Space, p: &JetPoly, k: u8, var: u32) -> Result<JetPoly, PolyFail>
+    requires small { IsSmall space }
+    requires within { k < space.p }
+    requires low { IsIn (is_below (coordinates_up_to space 11)) p.now }
+    ensures product { IfOk result (λ made. made ≡ total_derivative space k p.now *ᴾ variable_polynomial var) }
+    ensures past { IfErr result (λ fail. IsCause fail (total_derivative space k (absolute p.now) *ᴾ variable_polynomial var)) }
+{
+    let derivative = total(alloc, space, k, p)?;
+    match variable(alloc, var) {
+        Ok(variable) => derivative.mul(alloc, &variable),
+        Err(NoMemory) => Err(PolyFail::NoMemory),
+    }
+}
+
+/// A variable as a polynomial.
+fn variable(alloc: Global, var: u32) -> Result<JetPoly, NoMemory>
+    ensures { IfOk result (λ made. made ≡ variable_polynomial var) }
+{
+    let mono = match Mono::new(alloc, &[(var, 1)]) {
+        Ok(Some(mono)) => mono,
+        _ => return Err(NoMemory),
+    };
+    match JetPoly::of_terms(alloc, &[(mono, Whole::one())]) {
+        Ok(made) => Ok(made),
+        Err(_) => Err(NoMemory),
+    }
+}
