@@ -6,7 +6,7 @@ use Rattle.std.proofs.lemmas.List.{drop-set-lt, drop-replicate, get_or-take, len
 use Rattle.lie_math.specs.Counts.{order}
 use Rattle.lie_geometry.specs.Coordinates.{Space}
 use Rattle.lie_jet.specs.Jets.{IsJet}
-use Rattle.lie_gram.specs.Tokens.{one_more}
+use Rattle.lie_gram.specs.Names.{one_more}
 use Rattle.lie_gram.specs.Variables.{AreCounts}
 
 order_one_more : (J : List ℕ) (i : ℕ) → i < length J → order (set J i (get_or J i 0 + 1)) ≡ order J + 1

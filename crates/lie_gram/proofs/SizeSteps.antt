@@ -13,7 +13,8 @@ use Rattle.std.proofs.lemmas.Cmp.{tied_itself}
 use Rattle.lie_math.proofs.FiniteSum.{key as same_key}
 use Rattle.lie_math.proofs.Monomial.{same_monomial}
 use Rattle.lie_math.specs.Polynomial.{terms}
-use Rattle.lie_gram.specs.Terms.{size_of, signed}
+use Rattle.lie_ring.specs.Ratios.{signed}
+use Rattle.lie_gram.specs.Meaning.{size_of}
 use Rattle.lie_gram.specs.Sizes.{pairs_cmp, key_cmp, size_in, AreSizes}
 
 pub unsigned_abs-signed : (negative : Bool) (n : ℕ) → unsigned_abs (signed negative n) ≡ n

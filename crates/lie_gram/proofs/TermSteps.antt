@@ -92,7 +92,7 @@ put_within : (n : ℕ) (o : Option (List (Monomial × ℤ))) (text rest : List �
 put_within n None text rest h = tt
 put_within n (Some ts) text rest h = h
 
-signed_term_within : (S : Space) (names : List ℕ) (negative : Bool) (ts : List (Monomial × ℤ)) (text : List ℕ) → Within (length text) (signed_term_at S names negative ts text)
+pub signed_term_within : (S : Space) (names : List ℕ) (negative : Bool) (ts : List (Monomial × ℤ)) (text : List ℕ) → Within (length text) (signed_term_at S names negative ts text)
 unfolding signed_term_at
 signed_term_within S names negative ts text =
     let shorter = behind_shorter Blank text in

@@ -1,12 +1,11 @@
 -- Reading the lines of a file: the header and the names.
-use Rattle.std.specs.Prelude.{ℕ, ◌+◌, ◌-◌, ◌≡◌, Bool, ◌&&◌, ◌==◌, nat_le, nat_eq, List, [], ◌∷◌, ◌++◌, length, if◌then◌else◌, Some, None, Ok, Err, codes}
+use Rattle.std.specs.Prelude.{ℕ, ◌-◌, ◌≡◌, Bool, ◌&&◌, ◌==◌, nat_le, nat_eq, List, [], ◌∷◌, ◌++◌, length, if◌then◌else◌, Some, None, Ok, Err, codes}
 use Rattle.std.specs.declared.option.Option.{Option}
 use Rattle.std.specs.declared.result.Result.{Result}
 use Rattle.std.specs.Cmp.Lexicographic.{pointwise}
 use Rattle.std.specs.List.{list_any}
-use Rattle.lie_gram.specs.declared.fault.BadKind.{BadKind}
 use Rattle.lie_gram.specs.declared.fault.BadKind.TheVariants.{Header, UnknownWord, NameBad, NameTwice, TooManyNames, Syntax}
-use Rattle.lie_gram.specs.declared.runs.Class.TheVariants.{Word, Content, Letter}
+use Rattle.lie_gram.specs.declared.runs.Class.TheVariants.{Word, Letter}
 use Rattle.lie_gram.specs.declared.stop.Stop.{Stop}
 use Rattle.lie_gram.specs.declared.stop.LineFail.{LineFail}
 use Rattle.lie_gram.specs.declared.stop.LineFail.TheVariants.{Fault, NoMemory}
@@ -14,6 +13,7 @@ use Rattle.lie_gram.specs.declared.lines.FileFail.{FileFail}
 use Rattle.lie_gram.specs.declared.lines.FileFail.TheVariants as fails
 use Rattle.lie_gram.specs.Runs.{run, behind, after_blanks, is_in}
 use Rattle.lie_gram.specs.Stops.{stop, ◌>>=◌}
+use Rattle.lie_gram.specs.Places.{fault_at, placed, next_line}
 use Rattle.lie_gram.specs.Turns.{Turn, goes_on, ends, all_turns}
 
 -- what a call answered, seen by view, is what reading gives, unless memory ran out
@@ -27,13 +27,6 @@ ReadsFile view (Ok x) read = read ≡ Ok (view x)
 ReadsFile view (Err e) read = FileFails e read
 
 -- ---- places
--- a fault in the content of a line, at its last bytes `text`, where `left` lines are behind it
-abbrev pub fault_at : BadKind → List ℕ → ℕ → List ℕ → FileFail
-fault_at kind content left text = fails.Fault (record { kind = kind; lines_left = left + 1; column = length content - length text + 1 })
-
-abbrev pub placed : Stop → List ℕ → ℕ → FileFail
-placed s content left = fails.Fault (record { kind = s.kind; lines_left = left + 1; column = length content - s.left + 1 })
-
 -- a line is read, or its fault has the place of that line
 abbrev pub in_line : {A : Type 0} → List ℕ → ℕ → Result A Stop → Result A FileFail
 in_line content left (Ok x) = Ok x
@@ -44,11 +37,6 @@ IsFailed (Fault s) content left fail = fail ≡ placed s content left
 IsFailed NoMemory content left fail = fail ≡ fails.NoMemory
 
 -- ---- lines
--- the next line that is not skipped: its content, and the lines behind it
-abbrev pub next_line : List (List ℕ) → Option (List ℕ × List (List ℕ))
-next_line [] = None
-next_line (l ∷ ls) = if length (after_blanks (run Content l)) == 0 then next_line ls else Some (run Content l, ls)
-
 -- the first word is a keyword
 abbrev pub is_word : List ℕ → List ℕ → Bool
 is_word keyword text = pointwise nat_eq (run Word (after_blanks text)) keyword

@@ -1,9 +1,9 @@
 -- Reading equations and whole files.
-use Rattle.std.specs.Prelude.{ℕ, ◌+◌, ◌-◌, Bool, false, ◌&&◌, ◌||◌, ◌==◌, nat_le, List, [], ◌∷◌, ◌++◌, length, if◌then◌else◌, Some, None, Ok, Err, codes}
+use Rattle.std.specs.Prelude.{ℕ, ◌-◌, ◌==◌, nat_le, List, [], ◌∷◌, ◌++◌, length, if◌then◌else◌, Some, None, Ok, Err, codes}
 use Rattle.std.specs.declared.option.Option.{Option}
 use Rattle.std.specs.declared.result.Result.{Result}
-use Rattle.lie_math.specs.Polynomial.{WholePolynomial, polynomial_of}
-use Rattle.lie_geometry.specs.Coordinates.{Space, Coordinate}
+use Rattle.lie_math.specs.Polynomial.{polynomial_of}
+use Rattle.lie_geometry.specs.Coordinates.{Space}
 use Rattle.lie_gram.specs.declared.fault.BadKind.TheVariants.{UnknownWord, TooManyEquations, Syntax}
 use Rattle.lie_gram.specs.declared.runs.Class.TheVariants.{Content}
 use Rattle.lie_gram.specs.declared.stop.Stop.{Stop}
@@ -13,12 +13,9 @@ use Rattle.lie_gram.specs.Runs.{run, after_blanks}
 use Rattle.lie_gram.specs.Stops.{◌>>=◌}
 use Rattle.lie_gram.specs.Terms.{equation_of}
 use Rattle.lie_gram.specs.Leads.{lead_of}
-use Rattle.lie_gram.specs.FileLines.{fault_at, in_line, next_line, is_word, behind_word, after_header, names_of}
-
--- an equation: the derivative that is its left side alone, and the left side minus the right side
-pub record EquationRead : Type 0 where
-  pub lead : Option Coordinate
-  pub diff : WholePolynomial
+use Rattle.lie_gram.specs.Meaning.{EquationRead, SystemRead}
+use Rattle.lie_gram.specs.Places.{fault_at, next_line}
+use Rattle.lie_gram.specs.FileLines.{in_line, is_word, behind_word, after_header, names_of}
 
 unfoldable pub equation_at : Space → List ℕ → List ℕ → Result EquationRead Stop
 equation_at S names text = equation_of S names text >>= λ ts. Ok (record { lead = lead_of S names text; diff = polynomial_of ts })
@@ -62,12 +59,6 @@ equations_from S names es (l ∷ ls) =
     if length (after_blanks (run Content l)) == 0 then equations_from S names es ls
     else line_of S names (length es) (run Content l) ls >>= further (λ more. equations_from S names more ls) es
 
--- a system: its names and its equations
-pub record SystemRead : Type 0 where
-  pub space : Space
-  pub names : List ℕ
-  pub equations : List EquationRead
-
 abbrev pub space_of : List ℕ → List ℕ → Space
 space_of independent names = record { p = length independent; q = length names - length independent }
 
@@ -76,19 +67,3 @@ unfoldable pub system_of : List (List ℕ) → Result SystemRead FileFail
 system_of lines =
     after_header lines >>= λ ls. names_of (codes "vars") [] ls >>= λ v. names_of (codes "deps") v.0 v.1 >>= λ d.
     equations_from (space_of v.0 d.0) d.0 [] d.1 >>= λ es. Ok (record { space = space_of v.0 d.0; names = d.0; equations = es })
-
--- ---- the bytes
-abbrev pub begins_line_end : List ℕ → Bool
-begins_line_end [] = false
-begins_line_end (b ∷ bs) = b == 10
-
--- a byte is allowed before others: tab, a line end, or a space to `~`
-abbrev pub is_allowed : ℕ → List ℕ → Bool
-is_allowed b bs = if b == 13 then begins_line_end bs else (b == 9 || b == 10 || (nat_le 32 b && nat_le b 126))
-
--- the line and column of the first byte that is not allowed
-abbrev pub not_allowed_from : ℕ → ℕ → List ℕ → Option (ℕ × ℕ)
-not_allowed_from line column [] = None
-not_allowed_from line column (b ∷ bs) =
-    if is_allowed b bs then (if b == 10 then not_allowed_from (line + 1) 1 bs else not_allowed_from line (column + 1) bs)
-    else Some (line, column)

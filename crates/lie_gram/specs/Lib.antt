@@ -1,6 +1,12 @@
 pub mod Runs
 pub mod Stops
+pub mod Names
 pub mod Tokens
+pub mod Meaning
+pub mod TokenGrammar
+pub mod SumGrammar
+pub mod FileGrammar
+pub mod LineFaults
 pub mod Variables
 pub mod Turns
 pub mod Terms
@@ -8,7 +14,9 @@ pub mod Exponents
 pub mod Answers
 pub mod Sizes
 pub mod Leads
+pub mod Places
 pub mod FileLines
 pub mod Files
 pub mod Equations
 pub mod Reading
+pub mod FileFaults

@@ -1,33 +1,15 @@
 -- Reading the bytes of a file.
-use Rattle.std.specs.Prelude.{ℕ, ◌+◌, ◌-◌, ◌≡◌, ◌==◌, nat_lt, List, [], ◌∷◌, length, min, if◌then◌else◌, Some, None, Ok, Err}
+use Rattle.std.specs.Prelude.{ℕ, ◌≡◌, nat_lt, List, length, if◌then◌else◌, Some, None, Ok, Err}
 use Rattle.std.specs.declared.option.Option.{Option}
 use Rattle.std.specs.declared.result.Result.{Result}
-use Rattle.std.specs.List.{slice_split}
-use Rattle.lie_gram.specs.declared.fault.BadKind.{BadKind}
-use Rattle.lie_gram.specs.declared.fault.BadKind.TheVariants.{TooLong, NotAscii, EndMissing}
+use Rattle.lie_gram.specs.declared.fault.BadKind.TheVariants.{TooLong, NotAscii}
 use Rattle.lie_gram.specs.declared.fault.ReadFail.{ReadFail}
 use Rattle.lie_gram.specs.declared.fault.ReadFail.TheVariants as reads
 use Rattle.lie_gram.specs.declared.lines.FileFail.{FileFail}
-use Rattle.lie_gram.specs.declared.lines.FileFail.TheVariants as fails
-use Rattle.lie_gram.specs.Files.{SystemRead, system_of, not_allowed_from}
-
--- a fault with its place, as 32 bits hold it
-abbrev pub bad : ℕ → ℕ → BadKind → ReadFail
-bad line column kind = reads.Bad (record { line = min line 4294967295; column = min column 4294967295; kind = kind })
-
--- the length of the last line, n where there is none
-abbrev pub last_from : ℕ → List (List ℕ) → ℕ
-last_from n [] = n
-last_from n (l ∷ ls) = last_from (length l) ls
-
-abbrev pub last_length : List (List ℕ) → ℕ
-last_length lines = last_from 0 lines
-
--- the fault of a file of these lines with its place
-abbrev pub file_fault : List (List ℕ) → FileFail → ReadFail
-file_fault lines (fails.Fault s) = bad (length lines - s.lines_left + 1) s.column s.kind
-file_fault lines fails.Ended = bad (length lines) (last_length lines + 1) EndMissing
-file_fault lines fails.NoMemory = reads.NoMemory
+use Rattle.lie_gram.specs.Places.{bad, file_fault, not_allowed_from}
+use Rattle.lie_gram.specs.FileGrammar.{lines_of}
+use Rattle.lie_gram.specs.Files.{system_of}
+use Rattle.lie_gram.specs.Meaning.{SystemRead}
 
 abbrev pub with_place : List (List ℕ) → Result SystemRead FileFail → Result SystemRead ReadFail
 with_place lines (Ok s) = Ok s
@@ -38,7 +20,7 @@ read_lines lines = with_place lines (system_of lines)
 
 abbrev pub read_by : Option (ℕ × ℕ) → List ℕ → Result SystemRead ReadFail
 read_by (Some p) bytes = Err (bad p.0 p.1 NotAscii)
-read_by None bytes = read_lines (slice_split (λ b. b == 10) bytes)
+read_by None bytes = read_lines (lines_of bytes)
 
 -- the system that bytes spell, or their first fault
 unfoldable pub read : List ℕ → Result SystemRead ReadFail

@@ -7,7 +7,7 @@ use Rattle.std.specs.Ordering.{nat_cmp, ordering_then}
 use Rattle.std.specs.Cmp.Lexicographic.{slice_cmp}
 use Rattle.std.proofs.Common.{Ordering}
 use Rattle.lie_math.specs.Monomial.{Monomial}
-use Rattle.lie_gram.specs.Terms.{size_of}
+use Rattle.lie_gram.specs.Meaning.{size_of}
 
 -- the order of keys
 abbrev pub pairs_cmp : List (ℕ × ℕ) → List (ℕ × ℕ) → Ordering

@@ -1,9 +1,8 @@
 -- Reading terms, sums and equations.
-use Rattle.std.specs.Prelude.{ℕ, ◌+◌, ◌^◌, Bool, true, false, ◌==◌, nat_lt, List, [], ◌∷◌, ◌++◌, length, ℤ, pos, neg_ℤ, unsigned_abs, if◌then◌else◌, cond, Some, None, Ok, Err}
+use Rattle.std.specs.Prelude.{ℕ, ◌+◌, ◌^◌, Bool, true, false, ◌==◌, nat_lt, List, [], ◌∷◌, ◌++◌, length, ℤ, if◌then◌else◌, Some, None, Ok, Err}
 use Rattle.std.specs.declared.option.Option.{Option}
 use Rattle.std.specs.declared.result.Result.{Result}
-use Rattle.lie_math.specs.Monomial.{Monomial, monomial_cmp, unit, exponent, power_of, ◌·◌}
-use Rattle.std.specs.Ordering.{eq_by_cmp}
+use Rattle.lie_math.specs.Monomial.{Monomial, unit, exponent, power_of, ◌·◌}
 use Rattle.lie_geometry.specs.Coordinates.{Space}
 use Rattle.lie_gram.specs.declared.fault.BadKind.TheVariants.{Syntax, Number, Exponent}
 use Rattle.lie_gram.specs.declared.runs.Class.TheVariants.{Digit}
@@ -12,6 +11,8 @@ use Rattle.lie_gram.specs.Runs.{after_blanks, is_in}
 use Rattle.lie_gram.specs.Stops.{stop, ◌>>=◌}
 use Rattle.lie_gram.specs.Tokens.{literal_at, power_at}
 use Rattle.lie_gram.specs.Turns.{Turn, goes_on, ends, all_turns}
+use Rattle.lie_ring.specs.Ratios.{signed}
+use Rattle.lie_gram.specs.Meaning.{size_of, turned_sign}
 
 -- ---- terms
 -- the product of a monomial and a power, whose exponents are at most 32
@@ -48,15 +49,6 @@ unfoldable pub term_at : Space → List ℕ → List ℕ → Result (ℕ × Mono
 term_at S names text = first_at S names text >>= λ t. factors_at S names t.1 t.2 >>= λ x. Ok (t.0, x.0, x.1)
 
 -- ---- sums
--- the sum of the absolute values of the terms like a monomial
-abbrev pub size_of : Monomial → List (Monomial × ℤ) → ℕ
-size_of m [] = 0
-size_of m (t ∷ ts) = cond (eq_by_cmp monomial_cmp m t.0) (unsigned_abs t.1) 0 + size_of m ts
-
--- a number with a sign
-abbrev pub signed : Bool → ℕ → ℤ
-signed negative n = if negative then neg_ℤ (pos n) else pos n
-
 -- the terms and one more, where the absolute values of its like terms sum to at most 2^127 - 1
 abbrev pub with_term : Bool → ℕ → Monomial → List (Monomial × ℤ) → Option (List (Monomial × ℤ))
 with_term negative n m ts = if nat_lt (size_of m ts + n) (2 ^ 127) then Some (ts ++ (m, signed negative n) ∷ []) else None
@@ -82,12 +74,6 @@ term_by S names turned ts (c ∷ cs) =
 abbrev pub first_sign_of : List ℕ → Bool × List ℕ
 first_sign_of [] = (false, [])
 first_sign_of (c ∷ cs) = if c == 45 then (true, cs) else if c == 43 then (false, cs) else (false, c ∷ cs)
-
--- the other sign where a sum is turned
-abbrev pub turned_sign : Bool → Bool → Bool
-turned_sign true true = false
-turned_sign true false = true
-turned_sign false b = b
 
 -- the terms and those of the sum in front, and what is behind
 unfoldable pub sum_at : Space → List ℕ → Bool → List (Monomial × ℤ) → List ℕ → Result (List (Monomial × ℤ) × List ℕ) Stop

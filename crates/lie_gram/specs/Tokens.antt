@@ -1,13 +1,14 @@
 -- Reading numbers, coordinates and powers.
-use Rattle.std.specs.Prelude.{ℕ, ◌+◌, ◌-◌, ◌*◌, ◌^◌, Bool, true, false, ◌&&◌, ◌==◌, nat_le, nat_lt, List, [], ◌∷◌, length, take, drop, slice_index, slice_set, if◌then◌else◌, Some, None, Ok, Err}
+use Rattle.std.specs.Prelude.{ℕ, ◌+◌, ◌-◌, ◌*◌, ◌^◌, Bool, true, false, ◌&&◌, ◌==◌, nat_le, nat_lt, List, [], ◌∷◌, length, take, drop, if◌then◌else◌, Some, None, Ok, Err}
 use Rattle.std.specs.declared.option.Option.{Option}
 use Rattle.std.specs.declared.result.Result.{Result}
-use Rattle.lie_geometry.specs.Coordinates.{Space, Coordinate, independent, jet, number}
+use Rattle.lie_geometry.specs.Coordinates.{Space, Coordinate, jet, number}
 use Rattle.lie_gram.specs.declared.fault.BadKind.TheVariants.{Syntax, Number, UnknownName, Order, Exponent}
 use Rattle.lie_gram.specs.declared.runs.Class.TheVariants.{Letter, Digit}
 use Rattle.lie_gram.specs.declared.stop.Stop.{Stop}
 use Rattle.lie_gram.specs.Runs.{run, behind, after_blanks, is_in}
 use Rattle.lie_gram.specs.Stops.{stop, ◌>>=◌}
+use Rattle.lie_gram.specs.Names.{place_of, counts_of, variable_at}
 
 -- ---- numbers
 -- a number with one more digit, up to 2^127 - 1
@@ -42,32 +43,11 @@ unfoldable pub literal_at : List ℕ → Result (ℕ × List ℕ) Stop
 literal_at text = digits_at text >>= λ d. literal_by (value_of d.0) (after_blanks text) d.1
 
 -- ---- coordinates
--- the place of a letter among names, the first of which has the place k
-abbrev pub place_from : ℕ → List ℕ → ℕ → Option ℕ
-place_from k [] c = None
-place_from k (n ∷ ns) c = if n == c then Some k else place_from (k + 1) ns c
-
-abbrev pub place_of : List ℕ → ℕ → Option ℕ
-place_of names c = place_from 0 names c
-
 -- the place among names of a word that is one of them
 abbrev pub place_of_word : List ℕ → List ℕ → Option ℕ
 place_of_word names [] = None
 place_of_word names (c ∷ []) = place_of names c
 place_of_word names (c ∷ d ∷ cs) = None
-
--- counts with one more at a place
-abbrev pub one_more : List ℕ → Option ℕ → List ℕ
-one_more J None = J
-one_more J (Some i) = slice_set J i (slice_index J i + 1)
-
--- counts, and one more for each letter
-abbrev pub counts_from : List ℕ → List ℕ → List ℕ → List ℕ
-counts_from names J [] = J
-counts_from names J (c ∷ cs) = counts_from names (one_more J (place_of names c)) cs
-
-abbrev pub counts_of : List ℕ → List ℕ → List ℕ
-counts_of names word = counts_from names (0 ∷ 0 ∷ 0 ∷ 0 ∷ []) word
 
 -- each letter is a name
 abbrev pub is_name : Option ℕ → Bool → Bool
@@ -91,7 +71,7 @@ derivative S names word by text = derivative_by S (place_of_word (drop S.p names
 -- the variable that a word names
 abbrev pub plain_by : Space → Option ℕ → List ℕ → Result Coordinate Stop
 plain_by S None text = Err (stop UnknownName text)
-plain_by S (Some i) text = Ok (if nat_lt i S.p then independent i else jet (i - S.p) (take S.p (0 ∷ 0 ∷ 0 ∷ 0 ∷ [])))
+plain_by S (Some i) text = Ok (variable_at S i)
 
 unfoldable pub plain : Space → List ℕ → List ℕ → List ℕ → Result Coordinate Stop
 plain S names word text = plain_by S (place_of_word names word) text

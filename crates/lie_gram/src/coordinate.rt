@@ -2,7 +2,8 @@
 ghost use Rattle.std.specs.Prelude.{◌≡◌, ◌+◌, ◌≤◌, ◌<◌, IsTrue, IfSome, IfOk, length, slice_index};
 ghost use Rattle.lie_geometry.specs.Coordinates.{number as number_in};
 ghost use Rattle.lie_gram.specs.Stops.{Gives};
-ghost use Rattle.lie_gram.specs.Tokens.{one_more, place_of, place_of_word, counts_of, are_names, derivative, plain, coordinate_at};
+ghost use Rattle.lie_gram.specs.Names.{one_more, place_of, counts_of};
+ghost use Rattle.lie_gram.specs.Tokens.{place_of_word, are_names, derivative, plain, coordinate_at};
 ghost use Rattle.lie_gram.specs.Variables.{seen, IsVariable, AreCounts};
 
 use crate::fault::BadKind;

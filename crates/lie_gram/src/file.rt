@@ -1,7 +1,7 @@
 // The system of a file, by its lines.
 ghost use Rattle.std.specs.Prelude.{◌≡◌, ◌≤◌, ◌+◌, ◌-◌, length, map};
 ghost use Rattle.lie_gram.specs.FileLines.{ReadsFile};
-ghost use Rattle.lie_gram.specs.Files.{system_of, not_allowed_from};
+ghost use Rattle.lie_gram.specs.Files.{system_of};
 ghost use Rattle.lie_gram.specs.Equations.{system_read};
 
 use crate::equations::equations_of;

@@ -5,6 +5,7 @@ mod coordinate;
 mod equations;
 mod fault;
 mod file;
+pub mod laws;
 mod lead;
 mod lines;
 mod names;
@@ -22,5 +23,9 @@ pub use fault::{BadFile, BadKind, ReadFail};
 pub use reading::read_system;
 pub use system::{Equation, System};
 
+#[cfg(test)]
+mod equation_tests;
+#[cfg(test)]
+mod limit_tests;
 #[cfg(test)]
 mod tests;

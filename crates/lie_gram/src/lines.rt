@@ -1,7 +1,8 @@
 // The lines of a file, and the places of faults in them.
 ghost use Rattle.std.specs.Prelude.{◌≡◌, ◌≤◌, ◌+◌, length, map, IfOk, ◌==◌, option_map, IfSome};
 ghost use Rattle.std.specs.List.{slice_split};
-ghost use Rattle.lie_gram.specs.FileLines.{fault_at, next_line, is_word, behind_word, IsFailed};
+ghost use Rattle.lie_gram.specs.FileLines.{is_word, behind_word, IsFailed};
+ghost use Rattle.lie_gram.specs.Places.{fault_at, next_line};
 ghost use Rattle.lie_gram.specs.declared.lines.FileFail.TheVariants.{NoMemory};
 
 use crate::fault::BadKind;

@@ -1,7 +1,11 @@
 // Reading the bytes of a file.
-ghost use Rattle.std.specs.Prelude.{◌≡◌, ◌≤◌, ◌+◌, length, map, min};
-ghost use Rattle.lie_gram.specs.Files.{is_allowed, not_allowed_from};
-ghost use Rattle.lie_gram.specs.Reading.{bad, last_length, file_fault, read_lines, read, Answers};
+ghost use Rattle.std.specs.Prelude.{◌≡◌, ◌≤◌, ◌+◌, length, map, min, IfOk, Ok, Err};
+ghost use Rattle.lie_gram.specs.Meaning.{SystemRead};
+ghost use Rattle.lie_gram.specs.declared.fault.ReadFail.{ReadFail as AFault};
+ghost use Rattle.lie_gram.specs.FileFaults.{IsFault, IsFaultToldOf};
+ghost use Rattle.lie_gram.specs.FileGrammar.{is_allowed, IsFile};
+ghost use Rattle.lie_gram.specs.Reading.{read_lines, read, Answers};
+ghost use Rattle.lie_gram.specs.Places.{bad, last_length, file_fault, not_allowed_from};
 ghost use Rattle.lie_gram.specs.Equations.{system_read};
 
 use crate::fault::{BadFile, BadKind, ReadFail};
@@ -115,9 +119,9 @@ fn read_lines(alloc: Global, lines: &[&[u8]]) -> Result<System, ReadFail>
     }
 }
 
-/// The system that the bytes of a file spell, or their first fault.
+// The system that the bytes spell, or their first fault.
 #[tactic(auto, unfolding(crate::specs::Reading::read))]
-pub fn read_system(alloc: Global, bytes: &[u8]) -> Result<System, ReadFail>
+fn read_bytes(alloc: Global, bytes: &[u8]) -> Result<System, ReadFail>
     ensures { Answers system_read result (read bytes.now) }
 {
     if MAX_BYTES < bytes.len() {
@@ -130,4 +134,18 @@ pub fn read_system(alloc: Global, bytes: &[u8]) -> Result<System, ReadFail>
             read_lines(alloc, lines.as_slice())
         }
     }
+}
+
+/// The system whose file the bytes are, or their first fault.
+pub fn read_system(alloc: Global, bytes: &[u8]) -> Result<System, ReadFail>
+    // What is read is the file of the system, of at most 65,536 bytes.
+    ensures found { IfOk result (λ s. IsFile bytes.now (system_read s) × (length bytes.now ≤ 65536)) }
+    // A file of at most 65,536 bytes is read as its system, unless memory runs out.
+    ensures only { (s : SystemRead) → IsFile bytes.now s → length bytes.now ≤ 65536 → Answers system_read result (Ok s) }
+    // A fault that is told is the first fault of the bytes.
+    ensures fault { IsFaultToldOf bytes.now result }
+    // The first fault is told, unless memory runs out.
+    ensures stops { (f : AFault) → IsFault bytes.now f → Answers system_read result (Err f) }
+{
+    read_bytes(alloc, bytes)
 }

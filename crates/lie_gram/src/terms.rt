@@ -3,7 +3,8 @@ ghost use Rattle.std.specs.Prelude.{◌≡◌, ℕ, ◌+◌, ◌<◌, ◌^◌, [
 ghost use Rattle.lie_gram.specs.Sizes.{AreSizes, size_in, key_cmp};
 ghost use Rattle.std.specs.Ordering.{is_eq};
 ghost use Rattle.std.specs.Global.{Vec};
-ghost use Rattle.lie_gram.specs.Terms.{signed, with_term};
+ghost use Rattle.lie_gram.specs.Terms.{with_term};
+ghost use Rattle.lie_ring.specs.Ratios.{signed};
 
 use lie_ring::{Mono, NoMemory, Whole};
 use std::alloc::Global;

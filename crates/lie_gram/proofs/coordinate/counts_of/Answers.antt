@@ -1,6 +1,6 @@
 use Rattle.std.proofs.Common.{arith, refl, ap, sym, ◌∙◌, ◌≡◌, ◌+◌, drop, get_or}
 use Rattle.std.proofs.lemmas.List.{at_drop_more}
-use Rattle.lie_gram.specs.Tokens.{counts_from, one_more, place_of}
+use Rattle.lie_gram.specs.Names.{counts_from, one_more, place_of}
 use Rattle.lie_gram.proofs.CountSteps.{counts_none, counts_step, step_within, step_fits}
 use Rattle.lie_gram.proofs.coordinate.counts_of.Goals as goal
 

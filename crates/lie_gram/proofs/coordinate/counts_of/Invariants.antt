@@ -1,5 +1,5 @@
 use Rattle.std.proofs.Common.{◌≡◌, drop, ◌∷◌, []}
-use Rattle.lie_gram.specs.Tokens.{counts_from}
+use Rattle.lie_gram.specs.Names.{counts_from}
 use Rattle.lie_gram.specs.Variables.{AreCounts}
 use Rattle.lie_gram.proofs.coordinate.counts_of.Given as goal
 

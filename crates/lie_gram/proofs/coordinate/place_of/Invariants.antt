@@ -1,5 +1,5 @@
 use Rattle.std.proofs.Common.{◌≡◌, drop}
-use Rattle.lie_gram.specs.Tokens.{place_from}
+use Rattle.lie_gram.specs.Names.{place_from}
 use Rattle.lie_gram.proofs.coordinate.place_of.Given as goal
 
 abbrev pub invariant-loop-place : goal.invariant-loop-place

@@ -1,5 +1,5 @@
 use Rattle.std.proofs.Common.{◌≡◌, ◌-◌, drop, map, length}
-use Rattle.lie_gram.specs.FileLines.{next_line}
+use Rattle.lie_gram.specs.Places.{next_line}
 use Rattle.lie_gram.proofs.lines.next_line.Given as goal
 
 abbrev pub decreases-loop-i : goal.decreases-loop-i

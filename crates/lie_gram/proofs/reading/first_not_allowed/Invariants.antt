@@ -1,5 +1,5 @@
 use Rattle.std.proofs.Common.{◌≡◌, ◌-◌, ◌≤◌, ◌+◌, drop, length}
-use Rattle.lie_gram.specs.Files.{not_allowed_from}
+use Rattle.lie_gram.specs.Places.{not_allowed_from}
 use Rattle.lie_gram.proofs.reading.first_not_allowed.Given as goal
 
 abbrev pub decreases-loop-i : goal.decreases-loop-i

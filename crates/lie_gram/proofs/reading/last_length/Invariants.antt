@@ -1,5 +1,5 @@
 use Rattle.std.proofs.Common.{◌≡◌, drop, map}
-use Rattle.lie_gram.specs.Reading.{last_from}
+use Rattle.lie_gram.specs.Places.{last_from}
 use Rattle.lie_gram.proofs.reading.last_length.Given as goal
 
 abbrev pub invariant-loop-line : goal.invariant-loop-line
