@@ -1,0 +1,6 @@
+pub mod Leads
+pub mod SolvedForms
+pub mod Refusals
+pub mod Equations
+pub mod Causes
+pub mod Laws
