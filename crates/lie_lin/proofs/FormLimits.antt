@@ -22,7 +22,7 @@ use Rattle.lie_ring.specs.declared.failures.PastKind.TheVariants.{Coefficient, E
 use Rattle.lie_ring.specs.declared.failures.PolyFail.{PolyFail}
 use Rattle.lie_ring.specs.declared.failures.PolyFail.TheVariants.{Past, NoMemory}
 use Rattle.lie_jet.specs.declared.derivative.Der.{Der}
-use Rattle.lie_lin.specs.Causes.{IsFormCause}
+use Rattle.lie_jet.specs.FormLimits.{IsFormCause}
 use Rattle.lie_lin.specs.Forms.{derivatives_of, terms_at, coefficient_at, gathered, AreDerivatives}
 use Rattle.lie_jet.specs.Derivatives.{derivative_of}
 use Rattle.lie_lin.proofs.Gathering.{triples_gathered, terms_at-absolute, covers_absolute}

@@ -14,7 +14,7 @@ use Rattle.lie_systems.specs.Bulk.{absolute_triples, bulk, HasManyTriples, IsWit
 use Rattle.lie_ring.specs.Causes.{IsCause}
 use Rattle.lie_ring.specs.declared.failures.PolyFail.{PolyFail}
 use Rattle.lie_jet.specs.declared.derivative.Der.{Der}
-use Rattle.lie_lin.specs.Causes.{IsFormCause}
+use Rattle.lie_jet.specs.FormLimits.{IsFormCause}
 use Rattle.lie_lin.specs.Forms.{derivatives_of, terms_at, coefficient_at, gathered, unless_zero, kept, AreDerivatives}
 use Rattle.lie_jet.specs.Derivatives.{derivative_of}
 use Rattle.lie_lin.proofs.Forms.{triples_in-append}

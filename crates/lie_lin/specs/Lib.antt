@@ -1,2 +1,3 @@
 pub mod Forms
-pub mod Causes
+pub mod Systems
+pub mod Powers

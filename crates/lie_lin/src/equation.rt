@@ -44,6 +44,14 @@ impl LinEq {
     {
         LinEq { terms }
     }
+
+    /// The derivatives with their coefficients.
+    pub(crate) fn terms(&self) -> &[(Der, Flat<Whole>)]
+        ensures list { coefficients_of result.now ≡ self.now.list }
+        ensures coefficients { AreCoefficients result.now }
+    {
+        self.terms.as_slice()
+    }
 }
 
 /// The greatest derivative that occurs; None exactly where the form is empty.

@@ -5,7 +5,7 @@ ghost use Rattle.lie_math.specs.Limits.{absolutes, IsWithinLimits as IsPolynomia
 ghost use Rattle.lie_systems.specs.Triples.{sum_of_triples};
 ghost use Rattle.lie_systems.specs.Bulk.{bulk, IsWithinLimits};
 ghost use Rattle.lie_ring.specs.Causes.{IsCause};
-ghost use Rattle.lie_lin.specs.Causes.{IsFormCause};
+ghost use Rattle.lie_jet.specs.FormLimits.{IsFormCause};
 ghost use Rattle.lie_lin.specs.Forms.{derivatives_of, coefficients_of, triples_of, terms_at, AreDerivatives, gathered, kept, unless_zero};
 ghost use Rattle.lie_jet.specs.Derivatives.{derivative_of};
 

@@ -1,0 +1,30 @@
+use Rattle.std.proofs.Common.{arith, ◌<◌, ◌^◌, ap, ap₂, ◌∙◌}
+use Rattle.std.specs.Int.{w128}
+use Rattle.std.specs.Prelude.{pos, unsigned_abs}
+use Rattle.std.proofs.lemmas.Int.{fits_signed_from_abs, to_z_pos}
+use Rattle.lie_systems.specs.Normalised.{common_divisor}
+use Rattle.lie_lin.proofs.ContentSteps.{divisor_is, divisor_fits}
+use Rattle.lie_lin.proofs.content.common_divisor.Goals as goal
+
+pub overflow_cast-gcd : goal.overflow_cast-gcd
+overflow_cast-gcd c = let a = c.size.ensures.size in let b = c.size-2.ensures.size in let fa = c.size.ensures.fits in let fb = c.size-2.ensures.fits in fits_signed_from_abs w128 (pos c.gcd.result) (divisor_fits c.size.result c.size-2.result c.gcd.result c.gcd.ensures (omega arith) (omega arith))
+
+pub returns-in-Some : goal.returns-in-Some
+returns-in-Some c =
+    let a = c.size.ensures.size in
+    let b = c.size-2.ensures.size in
+    let fa = c.size.ensures.fits in
+    let fb = c.size-2.ensures.fits in
+    let k : c.gcd.result < 2 ^ 127 = divisor_fits c.size.result c.size-2.result c.gcd.result c.gcd.ensures (omega arith) (omega arith) in
+    c.in-Some.ensures.0 ∙ to_z_pos w128 c.gcd.result k ∙ ap pos (divisor_is c.size.result c.size-2.result c.gcd.result c.gcd.ensures ∙ ap₂ common_divisor c.size.ensures.size c.size-2.ensures.size)
+
+pub returns-in-None : goal.returns-in-None
+returns-in-None c =
+    let a = c.size.ensures.size in
+    let b = c.size-2.ensures.size in
+    let fa = c.size.ensures.fits in
+    let fb = c.size-2.ensures.fits in
+    let k : c.gcd.result < 2 ^ 127 = divisor_fits c.size.result c.size-2.result c.gcd.result c.gcd.ensures (omega arith) (omega arith) in
+    let h = c.in-None.ensures in
+    let e = ap unsigned_abs (to_z_pos w128 c.gcd.result k) in
+    absurd (omega arith)

@@ -1,0 +1,13 @@
+use Rattle.std.proofs.Common.{◌≡◌, ◌<◌, drop, length}
+use Rattle.lie_systems.specs.Normalised.{common_monomial}
+use Rattle.lie_lin.specs.Forms.{triples_of}
+use Rattle.lie_lin.proofs.content.common_monomial.Given as goal
+
+abbrev pub decreases-loop-i : goal.decreases-loop-i
+decreases-loop-i l = l.i
+
+abbrev pub invariant-loop-i : goal.invariant-loop-i
+invariant-loop-i l = record {
+  common : l.common ≡ common_monomial (triples_of (drop l.i l.list));
+  bound : l.i < length l.list;
+}

@@ -1,0 +1,22 @@
+use Rattle.std.proofs.Common.{arith, ◌≡◌, ◌++◌, min, sym, ap, ap₂, subst, ◌∙◌, get_or}
+use Rattle.std.specs.Prelude.{ℕ, IfOk}
+use Rattle.lie_math.specs.Monomial.{Monomial, exponent}
+use Rattle.lie_lin.specs.Powers.{power_unless_zero}
+use Rattle.lie_lin.proofs.PowerLists.{changed_more, made}
+use Rattle.lie_lin.proofs.factors.common_factor.Goals as goal
+
+pub loop-pair-preserved : goal.loop-pair-preserved
+loop-pair-preserved c =
+    c.in_ok-push_power.ensures
+    ∙ ap₂ (λ qs e. qs ++ power_unless_zero (get_or {A = ℕ × ℕ} c.pairs-pair-items.result.now c.loop-pair.pair-index (0, 0)).0 e) c.loop-pair.invariant
+    (c.min-exponent.ensures ∙ ap (λ n. min (get_or {A = ℕ × ℕ} c.pairs-pair-items.result.now c.loop-pair.pair-index (0, 0)).1 n) c.exponent.ensures)
+    ∙ sym (changed_more (λ v e. min e (exponent c.args.other.now v)) c.pairs-pair-items.result.now c.loop-pair.pair-index (0, 0) c.loop-pair-test.true)
+
+pub monomial_of-requires : goal.monomial_of-requires
+monomial_of-requires c =
+    (made (λ v e. min e (exponent c.args.other.now v)) c.args.mono.now c.pairs-pair-items.result.now c.as_slice.result.now c.loop-pair.pair-index c.pairs-pair-items.ensures (omega (arith, c.loop-pair-test.false)) (c.as_slice.ensures.value ∙ c.loop-pair.invariant)).0
+
+pub returns : goal.returns
+returns c =
+    subst (λ (m : Monomial). IfOk c.monomial_of.result (λ (n : Monomial). n ≡ m))
+    (made (λ v e. min e (exponent c.args.other.now v)) c.args.mono.now c.pairs-pair-items.result.now c.as_slice.result.now c.loop-pair.pair-index c.pairs-pair-items.ensures (omega (arith, c.loop-pair-test.false)) (c.as_slice.ensures.value ∙ c.loop-pair.invariant)).1 c.monomial_of.ensures
