@@ -28,6 +28,7 @@ use Rattle.lie_math.specs.Limits.{IsWithinLimits, absolute}
 use Rattle.lie_app.specs.Determining.{derivative, determining_terms, determining_form, IsMade, IsPastFirst, IsMadeFail, triples_from}
 use Rattle.lie_app.specs.Triples.{FormTriple, triples_at, triples_of, with_derivative}
 use Rattle.lie_app.proofs.Read.{past_is_not_within}
+use Rattle.lie_app.proofs.TripleLists.{one-list}
 
 pub determining_form-says : (h : WholePolynomial) (F : ℕ → WholePolynomial) → apply F (determining_form h) ≡ first_order_condition h (F 1) (F 2)
 unfolding determining_form apply
@@ -84,10 +85,6 @@ triples_at-none d p nil = ap (map (λ t. (d, t.0, t.1))) (go p.list nil)
     go [] e = refl
     go (x ∷ es) e = cc
 
-one-list : (constant (pos 1)).list ≡ (unit, pos 1) ∷ []
-unfolding finite.of finite.term
-one-list = refl
-
 joined : (a a' b c c' d d' e e' f f' : List FormTriple) → a ≡ a' → c ≡ c' → d ≡ d' → e ≡ e' → f ≡ f' → a ++ (b ++ (c ++ (d ++ (e ++ (f ++ []))))) ≡ a' ++ b ++ c' ++ d' ++ e' ++ f'
 joined a a' b c c' d d' e e' f f' p q r s t = rw (p, q, r, s, t) (simp (append_assoc, append-nil))
 
@@ -95,8 +92,8 @@ pub triples_of-form : (h : WholePolynomial) → triples_of (determining_form h) 
 unfolding determining_form finite.of
 triples_of-form h =
     flat_map-normal derivative_cmp (values terms) derivative_cmp_total derivative_same triples_at triples_at-none (determining_terms h) tt
-    ∙ joined _ ((derivative 2 (1 ∷ []), unit, pos 1) ∷ []) (with_derivative 2 (0 ∷ 1 ∷ []) false h.list) _ (with_derivative 1 (1 ∷ []) true h.list)
-    _ (with_derivative 1 (0 ∷ 1 ∷ []) true (h *ᴾ h).list) _ (with_derivative 2 [] true (partial 1 h).list) _ (with_derivative 1 [] true (partial 0 h).list)
+    ∙ joined _ ((derivative 2 (1 ∷ []), unit, pos 1) ∷ []) (with_derivative (derivative 2 (0 ∷ 1 ∷ [])) false h.list) _ (with_derivative (derivative 1 (1 ∷ [])) true h.list)
+    _ (with_derivative (derivative 1 (0 ∷ 1 ∷ [])) true (h *ᴾ h).list) _ (with_derivative (derivative 2 []) true (partial 1 h).list) _ (with_derivative (derivative 1 []) true (partial 0 h).list)
     (ap (map (λ t. (derivative 2 (1 ∷ []), t.0, t.1))) one-list) (triples_at-minus (derivative 1 (1 ∷ [])) h) (triples_at-minus (derivative 1 (0 ∷ 1 ∷ [])) (h *ᴾ h))
     (triples_at-minus (derivative 2 []) (partial 1 h)) (triples_at-minus (derivative 1 []) (partial 0 h))
 

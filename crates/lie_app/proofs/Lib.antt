@@ -11,6 +11,8 @@ pub mod Files
 pub mod Read
 pub mod DeterminingForm
 pub mod TripleLists
+pub mod PutIn
+pub mod Prolonged
 pub mod RightSides
 pub mod Leaves
 pub mod Complete

@@ -2,10 +2,11 @@
 use Rattle.std.specs.Prelude.{ℕ, ℤ, Bool, true, false, List, [], ◌∷◌, ◌++◌, map, codes, unsigned_abs, neg_ℤ, if◌then◌else◌}
 use Rattle.std.specs.Int.{is_negative}
 use Rattle.std.specs.List.{flat_map}
-use Rattle.lie_math.specs.Counts.{Derivative, trimmed}
+use Rattle.lie_math.specs.Counts.{Derivative}
 use Rattle.lie_math.specs.LinearForm.{LinearForm}
 use Rattle.lie_math.specs.Monomial.{Monomial}
 use Rattle.lie_math.specs.Polynomial.{WholePolynomial}
+use Rattle.lie_jet.specs.Derivatives.{derivative_of}
 use Rattle.lie_app.specs.declared.triple.Triple.{Triple}
 use Rattle.lie_app.specs.Printing.{triple_text, sign_text}
 
@@ -20,17 +21,13 @@ triples_at e = map (λ t. (e.0, t.0, t.1)) e.1.list
 abbrev pub triples_of : LinearForm → List FormTriple
 triples_of E = flat_map triples_at E.list
 
--- the unknown derived by counts, whose zeros at the end don't matter
-abbrev pub derivative_by : ℕ → List ℕ → Derivative
-derivative_by unknown counts = record { unknown = unknown; counts = trimmed counts }
-
 -- a number, or minus the number
 abbrev pub turned : Bool → ℤ → ℤ
 turned negative z = if negative then neg_ℤ z else z
 
--- terms or minus the terms, each with the derivative of an unknown
-abbrev pub with_derivative : ℕ → List ℕ → Bool → List (Monomial × ℤ) → List FormTriple
-with_derivative unknown counts negative ts = map (λ t. (derivative_by unknown counts, t.0, turned negative t.1)) ts
+-- terms or minus the terms, each with a derivative of an unknown
+abbrev pub with_derivative : Derivative → Bool → List (Monomial × ℤ) → List FormTriple
+with_derivative d negative ts = map (λ t. (d, t.0, turned negative t.1)) ts
 
 -- a triple with its sign, as the first of a sum or a further one
 abbrev pub signed_text : List (List ℕ) → Bool → FormTriple → List ℕ
@@ -43,4 +40,4 @@ sum_text names (t ∷ ts) = signed_text names false t ++ flat_map (signed_text n
 
 -- the triple that a value of the program is
 abbrev pub form_triple : Triple → FormTriple
-form_triple t = (derivative_by t.derivative.unknown t.derivative.counts, t.monomial, t.coefficient)
+form_triple t = (derivative_of t.derivative, t.monomial, t.coefficient)
