@@ -4,3 +4,4 @@ pub mod Listed
 pub mod Derivatives
 pub mod FormLimits
 pub mod FormTotals
+pub mod ValidFields

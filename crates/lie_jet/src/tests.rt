@@ -5,7 +5,10 @@ ghost use Rattle.lie_math.specs.Variables.{IsIn};
 ghost use Rattle.lie_math.proofs.Kept.{pairs_in};
 
 use crate::derivative::raise_derivative;
-use crate::{Der, Field, Jet, JetPoly, Space, SymForm, jet_number, jet_of, total, total_sym};
+use crate::{
+    Der, Field, Jet, JetPoly, Space, SymForm, absolute_polynomial, jet_number, jet_of, total,
+    total_sym,
+};
 use lie_ring::{Mono, Polynomial, Ring, Whole};
 use std::alloc::Global;
 use std::test::Fail;
@@ -178,5 +181,17 @@ fn total_of_a_form(rt: HostRuntime) -> Result<(), Fail> {
             &[(&[(0, 1), (2, 1)], 1), (&[(1, 1)], 1)]
         )
     );
+    Ok(())
+}
+
+#[test]
+fn absolute_values(rt: HostRuntime) -> Result<(), Fail> {
+    let alloc = rt.alloc();
+    let c = Whole::new(-3).ok_or("too wide")?;
+    let terms = vec![in alloc; (Mono::one(alloc), c)]?;
+    let p = JetPoly::of_terms(alloc, terms.as_slice())?;
+    let sizes = absolute_polynomial(alloc, &p)?.terms(alloc)?;
+    assert_eq!(rt; sizes.len(), 1);
+    assert_eq!(rt; sizes[0].1.get(), 3);
     Ok(())
 }

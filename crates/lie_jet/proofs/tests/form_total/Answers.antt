@@ -1,4 +1,4 @@
-use Rattle.std.proofs.Common.{◌≡◌, ◌≤◌, ◌∙◌, ◌∷◌, [], arith, ap, subst, sym}
+use Rattle.std.proofs.Common.{◌∙◌, ◌∷◌, [], arith, ap, subst, sym}
 use Rattle.lie_math.specs.LinearForm.{LinearForm, no_form, ◌+ᶠ◌, form_term}
 use Rattle.lie_jet.specs.Derivatives.{derivative_of}
 use Rattle.lie_jet.specs.declared.derivative.Der.{Der}

@@ -1,4 +1,4 @@
-use Rattle.std.proofs.Common.{subst, ap, ◌∙◌, ◌∷◌, []}
+use Rattle.std.proofs.Common.{ap, ◌∙◌, ◌∷◌, []}
 use Rattle.lie_math.specs.Derivation.{is_below}
 use Rattle.lie_math.specs.Polynomial.{polynomial_of}
 use Rattle.lie_ring.specs.Entries.{entries}
