@@ -73,7 +73,7 @@ module _ (S : Space) (k : ℕ) (d : Derivative) (p : WholePolynomial) where
       ∙ ap₂ ◌+ᶠ◌ (times_form-term p (raised k d) (constant (pos 1)) ∙ ap (form_term (raised k d)) one_right)
       (times_over p (numbers_below S.q) (dependent_term S k d (constant (pos 1))) ∙ ap (forms_over (numbers_below S.q)) (fun_ext slope_times))
 
-signed_is : (n : ℕ) (s : ℤ) → constant s *ᴾ variable n ≡ term (single n) s
+pub signed_is : (n : ℕ) (s : ℤ) → constant s *ᴾ variable n ≡ term (single n) s
 signed_is n s = term_times_term unit (single n) s (pos 1) ∙ ap₂ term (·_idl (single n)) (*ℤ_comm s (pos 1) ∙ one_times s)
 
 abbrev pub component_at : ℕ → Derivative

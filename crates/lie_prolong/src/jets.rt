@@ -25,8 +25,8 @@ pub fn jets_up_to(alloc: Global, space: Space, order: u8) -> Result<Vec<Jet>, No
     Ok(jets)
 }
 
-/// How often the jet is derived.
-fn order_of(space: Space, jet: &Jet) -> u32
+/// How often the jet is derived, by all independent variables. The jet is one of the space, of an order of at most 12.
+pub fn order_of(space: Space, jet: &Jet) -> u32
     requires { IsJet space 12 jet.now }
     ensures { result ≡ order_of_counts (take space.p jet.now.counts) }
 {

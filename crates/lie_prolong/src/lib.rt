@@ -10,8 +10,10 @@ mod symbolic;
 mod symbolic_coefficient;
 
 pub use field::prolong_field;
+pub use jets::order_of;
 pub use lie_geometry::prolongation as laws;
 pub use symbolic::prolong_sym;
+pub use symbolic_coefficient::component;
 
 #[cfg(test)]
 mod symbolic_tests;

@@ -53,8 +53,8 @@ fn unknown(variable: u8) -> Der
     }
 }
 
-/// The component of the field at a variable.
-fn component(alloc: Global, variable: u8) -> Result<SymForm, PolyFail>
+/// The component of the field of unknown functions at a variable: the unknown with the next number.
+pub fn component(alloc: Global, variable: u8) -> Result<SymForm, PolyFail>
     ensures value { IfOk result (λ made. made ≡ unknown_at variable) }
     ensures fits { OnOk result (IsWithinLimits (unknown_at variable)) }
     ensures past { IfErr result (λ fail. IsFormCause fail (unknown_at variable)) }
