@@ -22,8 +22,7 @@ use Rattle.lie_ring.specs.declared.failures.PastKind.TheVariants.{Coefficient, E
 use Rattle.lie_ring.specs.declared.failures.PolyFail.{PolyFail}
 use Rattle.lie_ring.specs.declared.failures.PolyFail.TheVariants.{Past, NoMemory}
 use Rattle.lie_jet.specs.declared.derivative.Der.{Der}
-use Rattle.lie_jet.specs.FormLimits.{IsFormCause}
-use Rattle.lie_lin.specs.Forms.{derivatives_of, terms_at, coefficient_at, gathered, AreDerivatives}
+use Rattle.lie_lin.specs.Forms.{IsSumCause, derivatives_of, terms_at, coefficient_at, gathered, AreDerivatives}
 use Rattle.lie_jet.specs.Derivatives.{derivative_of}
 use Rattle.lie_lin.proofs.Gathering.{triples_gathered, terms_at-absolute, covers_absolute}
 
@@ -99,7 +98,7 @@ module _ (ders : List Der) (ts : List Triple) (all : AreDerivatives (derivatives
     wide_apart : (z : ℤ) → 2 ^ 127 ≤ unsigned_abs z → ¬ (z ≡ pos 0)
     wide_apart z h k = let w : 2 ^ 127 ≤ 0 = subst (λ y. 2 ^ 127 ≤ unsigned_abs y) k h in omega arith
 
-    cause_in : (fail : PolyFail) → IsCause fail (coefficient_at (derivative_of x) (bulks.absolute_triples ts)) → IsFormCause fail (bulks.bulk ts)
+    cause_in : (fail : PolyFail) → IsCause fail (coefficient_at (derivative_of x) (bulks.absolute_triples ts)) → IsSumCause fail (bulks.bulk ts)
     cause_in (Past Coefficient) h = some_triple (λ (t : Triple). 2 ^ 127 ≤ unsigned_abs t.2) h.0 (wide_apart _ h.1) h.1
     cause_in (Past Exponent) h = some_triple (λ (t : Triple). (v : ℕ) × (65535 < exponent t.1 v)) h.0 h.1 h.2
     cause_in (Past Terms) h = subst (λ us. 1000000 < length us) (sym bulk_gathered) (let l = length_at ders (bulks.absolute_triples ts) i x lt e in omega arith)
@@ -108,7 +107,7 @@ module _ (ders : List Der) (ts : List Triple) (all : AreDerivatives (derivatives
     cause_in (Past Width) h = absurd h
     cause_in NoMemory h = tt
 
-    pub cause_of_part : (fail : PolyFail) → IsCause fail (polynomial_of (absolutes (terms_at (derivative_of x) ts))) → IsFormCause fail (bulks.bulk ts)
+    pub cause_of_part : (fail : PolyFail) → IsCause fail (polynomial_of (absolutes (terms_at (derivative_of x) ts))) → IsSumCause fail (bulks.bulk ts)
     cause_of_part fail h = cause_in fail (subst (λ es. IsCause fail (polynomial_of es)) (sym (terms_at-absolute (derivative_of x) ts)) h)
 
   -- ---- within the limits

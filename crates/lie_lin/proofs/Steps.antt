@@ -14,8 +14,7 @@ use Rattle.lie_systems.specs.Bulk.{absolute_triples, bulk, HasManyTriples, IsWit
 use Rattle.lie_ring.specs.Causes.{IsCause}
 use Rattle.lie_ring.specs.declared.failures.PolyFail.{PolyFail}
 use Rattle.lie_jet.specs.declared.derivative.Der.{Der}
-use Rattle.lie_jet.specs.FormLimits.{IsFormCause}
-use Rattle.lie_lin.specs.Forms.{derivatives_of, terms_at, coefficient_at, gathered, unless_zero, kept, AreDerivatives}
+use Rattle.lie_lin.specs.Forms.{IsSumCause, derivatives_of, terms_at, coefficient_at, gathered, unless_zero, kept, AreDerivatives}
 use Rattle.lie_jet.specs.Derivatives.{derivative_of}
 use Rattle.lie_lin.proofs.Forms.{triples_in-append}
 use Rattle.lie_lin.proofs.Placing.{derivatives_of-append}
@@ -60,7 +59,7 @@ AreWithin ds ts = Every (λ d. IsPolynomialWithinLimits (polynomial_of (absolute
 pub within_step : (ders : List Der) (ts : List Triple) (i : ℕ) (d : Der) → i < length ders → AreWithin (derivatives_of (take i ders)) ts → IsPolynomialWithinLimits (polynomial_of (absolutes (terms_at (derivative_of (get_or ders i d)) ts))) → AreWithin (derivatives_of (take (i + 1) ders)) ts
 within_step ders ts i d lt h k = subst (λ ds. AreWithin ds ts) (sym (one_more ders i d lt)) (every_push (λ d. IsPolynomialWithinLimits (polynomial_of (absolutes (terms_at d ts)))) (derivatives_of (take i ders)) (derivative_of (get_or ders i d)) h k)
 
-pub cause_at : (ders : List Der) (ts : List Triple) → AreDerivatives (derivatives_of ders) ts → (i : ℕ) (d : Der) → i < length ders → (fail : PolyFail) → IsCause fail (polynomial_of (absolutes (terms_at (derivative_of (get_or ders i d)) ts))) → IsFormCause fail (bulk ts)
+pub cause_at : (ders : List Der) (ts : List Triple) → AreDerivatives (derivatives_of ders) ts → (i : ℕ) (d : Der) → i < length ders → (fail : PolyFail) → IsCause fail (polynomial_of (absolutes (terms_at (derivative_of (get_or ders i d)) ts))) → IsSumCause fail (bulk ts)
 cause_at ders ts all i d lt fail h = cause_of_part ders ts all i (get_or ders i d) lt (get_same ders i d (get_or ders i d) lt) fail h
 
 take_past : (ders : List Der) (i : ℕ) → length ders ≤ i → take i ders ≡ ders

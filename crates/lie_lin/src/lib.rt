@@ -6,11 +6,13 @@ mod derivatives;
 mod equation;
 mod factors;
 mod normalised;
+mod order;
 mod sum;
 mod system;
 
 pub use equation::{LinEq, lead, triples};
 pub use normalised::primitive;
+pub use order::{compare_equations, triple_count};
 pub use sum::of_triples;
 pub use system::{LinSystem, Unknown};
 

@@ -5,8 +5,7 @@ ghost use Rattle.lie_math.specs.Limits.{absolutes, IsWithinLimits as IsPolynomia
 ghost use Rattle.lie_systems.specs.Triples.{sum_of_triples};
 ghost use Rattle.lie_systems.specs.Bulk.{bulk, IsWithinLimits};
 ghost use Rattle.lie_ring.specs.Causes.{IsCause};
-ghost use Rattle.lie_jet.specs.FormLimits.{IsFormCause};
-ghost use Rattle.lie_lin.specs.Forms.{derivatives_of, coefficients_of, triples_of, terms_at, AreDerivatives, gathered, kept, unless_zero};
+ghost use Rattle.lie_lin.specs.Forms.{IsSumCause, derivatives_of, coefficients_of, triples_of, terms_at, AreDerivatives, gathered, kept, unless_zero};
 ghost use Rattle.lie_jet.specs.Derivatives.{derivative_of};
 
 use crate::derivatives::{compare, derivatives};
@@ -24,7 +23,7 @@ const MAX_TRIPLES: u128 = 1_000_000;
 pub fn of_triples(alloc: Global, list: &[(Der, Mono, Whole)]) -> Result<LinEq, PolyFail>
     ensures sum { IfOk result (λ eq. eq ≡ sum_of_triples (triples_of list.now)) }
     ensures fits { OnOk result (IsWithinLimits (bulk (triples_of list.now))) }
-    ensures past { IfErr result (λ fail. IsFormCause fail (bulk (triples_of list.now))) }
+    ensures past { IfErr result (λ fail. IsSumCause fail (bulk (triples_of list.now))) }
 {
     let ders = match derivatives(alloc, list) {
         Ok(ders) => ders,
@@ -45,7 +44,7 @@ fn coefficients(
     requires { AreDerivatives (derivatives_of ders.now) (triples_of list.now) }
     ensures sum { IfOk result (λ terms. coefficients_of terms.items ≡ kept (gathered (derivatives_of ders.now) (triples_of list.now))) }
     ensures fits { OnOk result (IsWithinLimits (bulk (triples_of list.now))) }
-    ensures past { IfErr result (λ fail. IsFormCause fail (bulk (triples_of list.now))) }
+    ensures past { IfErr result (λ fail. IsSumCause fail (bulk (triples_of list.now))) }
 {
     let mut terms = Vec::new(alloc);
     let mut count: u128 = 0;

@@ -3,10 +3,14 @@ ghost use Rattle.std.specs.Prelude.{◌≡◌, [], IfOk};
 ghost use Rattle.lie_jet.specs.Derivatives.{derivative_of};
 ghost use Rattle.lie_math.specs.LinearForm.{unknown_form};
 
-use crate::{LinEq, LinSystem, Unknown, lead, of_triples, primitive, triples};
+use crate::{
+    LinEq, LinSystem, Unknown, compare_equations, lead, of_triples, primitive, triple_count,
+    triples,
+};
 use lie_jet::{Der, Space};
 use lie_ring::{Mono, NoMemory, Ring, Whole};
 use std::alloc::Global;
+use std::cmp::Ordering;
 use std::test::Fail;
 
 // x is the variable 0.
@@ -50,6 +54,19 @@ fn empty_sum_has_no_lead(rt: HostRuntime) -> Result<(), Fail> {
     let form = of_triples(alloc, &[]).map_err(|_| "sum")?;
     assert_eq!(rt; lead(&form), None);
     assert_eq!(rt; triples(alloc, &form).map_err(|_| "memory")?.len(), 0);
+    Ok(())
+}
+
+#[test]
+fn equations_are_ordered_by_triples(rt: HostRuntime) -> Result<(), Fail> {
+    let alloc = rt.alloc();
+    let first = unknown(alloc, 1).map_err(|_| "memory")?;
+    let second = unknown(alloc, 2).map_err(|_| "memory")?;
+    assert_eq!(rt; triple_count(&first), 1);
+    let order = compare_equations(alloc, &first, &second).map_err(|_| "memory")?;
+    assert_eq!(rt; order, Ordering::Less);
+    let order = compare_equations(alloc, &second, &second).map_err(|_| "memory")?;
+    assert_eq!(rt; order, Ordering::Equal);
     Ok(())
 }
 
