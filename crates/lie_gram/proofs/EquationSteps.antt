@@ -9,7 +9,7 @@ use Rattle.lie_gram.specs.Terms.{equation_of}
 use Rattle.lie_gram.specs.Leads.{lead_of}
 use Rattle.lie_gram.specs.Files.{equation_at}
 
-entries_same : (ts : List (Monomial × ℤ)) → entries (λ w. w) ts ≡ ts
+pub entries_same : (ts : List (Monomial × ℤ)) → entries (λ w. w) ts ≡ ts
 entries_same [] = refl
 entries_same (t ∷ ts) = ap (λ l. t ∷ l) (entries_same ts)
 

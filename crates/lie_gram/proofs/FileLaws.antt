@@ -3,6 +3,7 @@ use Rattle.std.specs.Prelude.{ℕ, ◌≡◌, ◌+◌, ◌-◌, ◌≤◌, Bool,
 use Rattle.std.specs.declared.result.Result.{Result}
 use Rattle.std.proofs.Common.{length-append, sym, ap, ◌∙◌, subst, arith}
 use Rattle.std.proofs.lemmas.Bool.Decides.{nat_tests}
+use Rattle.lie_geometry.specs.Coordinates.{Space}
 use Rattle.lie_gram.specs.declared.fault.BadKind.TheVariants.{TooLong}
 use Rattle.lie_gram.specs.declared.fault.ReadFail.{ReadFail}
 use Rattle.lie_gram.specs.declared.lines.FileFail.{FileFail}
@@ -128,3 +129,9 @@ is-read bytes s h short = let test : nat_lt 65536 (length bytes) ≡ false = gri
 -- a text is the file of one system at most
 pub one_system : (bytes : List ℕ) (s t : SystemRead) → IsFile bytes s → IsFile bytes t → s ≡ t
 one_system bytes s t h k = ok_is s t (sym (is-read_any bytes s h) ∙ is-read_any bytes t k)
+
+-- ---- names
+pub file_names : (bytes : List ℕ) (s : SystemRead) → IsFile bytes s → length s.names ≡ s.space.p + s.space.q
+file_names bytes s h =
+    let a = h.system in
+    ap length a.names ∙ length-append a.independent a.dependent ∙ sym (ap (λ (S : Space). S.p + S.q) a.space)

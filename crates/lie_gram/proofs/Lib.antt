@@ -28,3 +28,14 @@ pub mod EquationFaults
 pub mod NameFaults
 pub mod BodyFaults
 pub mod FileFaults
+mod FieldSteps
+mod FieldShorter
+mod FieldSizes
+mod FieldParts
+mod FieldTold
+mod FieldSums
+mod FieldBack
+mod FieldSumsBack
+mod FieldTexts
+mod FieldLaws
+mod CommonDenominators

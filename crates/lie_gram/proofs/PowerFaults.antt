@@ -37,7 +37,7 @@ no_run : (bs : List ℕ) → BeginsOutside Digit bs → (length (run Digit bs) =
 no_run [] h = refl
 no_run (b ∷ bs) h = rw h refl
 
-is-digits_fault : (text : List ℕ) → BeginsOutside Digit (after_blanks text) → digits_at text ≡ Err (stop Syntax (after_blanks text))
+pub is-digits_fault : (text : List ℕ) → BeginsOutside Digit (after_blanks text) → digits_at text ≡ Err (stop Syntax (after_blanks text))
 unfolding digits_at
 is-digits_fault text h = rw (no_run (after_blanks text) h) refl
 
@@ -62,7 +62,7 @@ no_value digits n are value high = go (value_of digits) refl
 pub digits_make : (text digits rest : List ℕ) → AreDigitsAt text digits rest → IsNumber text (digits_value 10 digits) rest
 digits_make text digits rest at = record { digits = digits; front = at.front; ended = at.ended; numeral = (at.some, digits_all digits at.are); value = refl }
 
-value_fails : (text digits rest : List ℕ) (t after : List ℕ) (s : Stop) → AreDigitsAt text digits rest → exponent_value (value_of digits) t after ≡ Err s
+pub value_fails : (text digits rest : List ℕ) (t after : List ℕ) (s : Stop) → AreDigitsAt text digits rest → exponent_value (value_of digits) t after ≡ Err s
     → (e : ℕ) × IsNumber text e rest × ((e ≡ 0) ⊎ (33 ≤ e)) × (stop Exponent t ≡ s)
 value_fails text digits rest t after s at h = go (value_of digits) refl h
   where
@@ -109,7 +109,7 @@ power_at-fails S names text s h =
     bind_fails (coordinate_at S names t) _ s h (λ e. in_coordinate s (coordinate_at-fails S names t s e)) (λ v is_v more.
     bind_fails (exponent_at t v.1) _ s more (λ e. exponent_fails S names text v.0 v.1 s (coordinate_at-is S names text v is_v) e) (λ e is_e rest. cc))
 
-wrong_value : (digits t after : List ℕ) (e : ℕ) → AreIn Digit digits → digits_value 10 digits ≡ e → ((e ≡ 0) ⊎ (33 ≤ e)) → exponent_value (value_of digits) t after ≡ Err (stop Exponent t)
+pub wrong_value : (digits t after : List ℕ) (e : ℕ) → AreIn Digit digits → digits_value 10 digits ≡ e → ((e ≡ 0) ⊎ (33 ≤ e)) → exponent_value (value_of digits) t after ≡ Err (stop Exponent t)
 wrong_value digits t after e are value out = go (value_of digits) refl
   where
     within : (n : ℕ) → (n ≡ 0) ⊎ (33 ≤ n) → (nat_le 1 n && nat_le n 32) ≡ false

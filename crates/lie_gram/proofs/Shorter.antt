@@ -77,7 +77,7 @@ exponent_by_within text rest (c ∷ cs) h =
     (within_bind (length cs) (length rest) (digits_at cs) _ (digits_within cs) (λ d k. exponent_value_within (length rest) (value_of d.0) text d.1 (omega arith)))
     (let e : length rest ≤ length rest = omega arith in e)
 
-exponent_within : (text rest : List ℕ) → Within (length rest) (exponent_at text rest)
+pub exponent_within : (text rest : List ℕ) → Within (length rest) (exponent_at text rest)
 unfolding exponent_at
 exponent_within text rest = exponent_by_within text rest (after_blanks rest) (behind_shorter Blank rest)
 

@@ -26,19 +26,19 @@ pub size_of-push : (m k : Monomial) (z : ℤ) (ts : List (Monomial × ℤ)) → 
 size_of-push m k z [] = omega arith
 size_of-push m k z (t ∷ ts) = let e = size_of-push m k z ts in omega arith
 
-equal_from_is_eq : (o : Ordering) → is_eq o ≡ true → o ≡ Equal
+pub equal_from_is_eq : (o : Ordering) → is_eq o ≡ true → o ≡ Equal
 equal_from_is_eq Less e = cc
 equal_from_is_eq Equal e = refl
 equal_from_is_eq Greater e = cc
 
-pairs_same : IsAntisymmetric pairs_cmp
+pub pairs_same : IsAntisymmetric pairs_cmp
 pairs_same = slice_cmp-IsAntisymmetric (λ x y e.
     let p = then_equal (nat_cmp x.0 y.0) (nat_cmp x.1 y.1) e in
     let l : x.0 ≡ y.0 = nat_cmp-IsAntisymmetric x.0 y.0 p.0 in
     let r : x.1 ≡ y.1 = nat_cmp-IsAntisymmetric x.1 y.1 p.1 in
     λ i. (l i, r i))
 
-pairs_itself : (ps : List (ℕ × ℕ)) → pairs_cmp ps ps ≡ Equal
+pub pairs_itself : (ps : List (ℕ × ℕ)) → pairs_cmp ps ps ≡ Equal
 pairs_itself [] = refl
 pairs_itself (p ∷ ps) = rw (tied_itself nat_cmp_total p.0, tied_itself nat_cmp_total p.1) (pairs_itself ps)
 

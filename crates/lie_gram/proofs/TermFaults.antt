@@ -152,7 +152,7 @@ literal_at-fails text s digit h =
     go d at None none k = (digits_value 10 d.0, d.1, digits_make text d.0 d.1 at, large_digits d.0 at.are none, err_is (stop Number (after_blanks text)) s k)
     go d at (Some n) some k = cc
 
-is-large_literal : (text : List ℕ) (n : ℕ) (rest : List ℕ) → IsNumber text n rest → 2 ^ 127 ≤ n → literal_at text ≡ Err (stop Number (after_blanks text))
+pub is-large_literal : (text : List ℕ) (n : ℕ) (rest : List ℕ) → IsNumber text n rest → 2 ^ 127 ≤ n → literal_at text ≡ Err (stop Number (after_blanks text))
 unfolding literal_at
 is-large_literal text n rest number high =
     rw (is-digits_at text number.digits rest (digits_of_number text n rest number), no_value number.digits n (all_digits number.digits number.numeral.1) number.value high) refl

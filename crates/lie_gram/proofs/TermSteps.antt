@@ -16,7 +16,7 @@ use Rattle.lie_gram.proofs.Shorter.{Within, behind_shorter, factor_within, liter
 use Rattle.lie_gram.proofs.FactorSteps.{turn_within_bind, turn_within_if}
 
 -- a turn leaves at most n bytes, also where it ends
-abbrev TurnLeaves : {S A : Type 0} → ℕ → Result (Turn S (A × List ℕ)) Stop → Type 0
+abbrev pub TurnLeaves : {S A : Type 0} → ℕ → Result (Turn S (A × List ℕ)) Stop → Type 0
 TurnLeaves n (Ok (goes_on s rest)) = length rest ≤ n
 TurnLeaves n (Ok (ends r)) = length r.1 ≤ n
 TurnLeaves n (Err e) = Unit {0}
@@ -27,7 +27,7 @@ after_within f n (Ok (goes_on s rest)) h k = k s rest h
 after_within f n (Ok (ends r)) h k = h
 after_within f n (Err e) h k = tt
 
-turns_within : {S A : Type 0} (turn : S → List ℕ → Result (Turn S (A × List ℕ)) Stop) → ((s : S) (text : List ℕ) → TurnLeaves (length text) (turn s text))
+pub turns_within : {S A : Type 0} (turn : S → List ℕ → Result (Turn S (A × List ℕ)) Stop) → ((s : S) (text : List ℕ) → TurnLeaves (length text) (turn s text))
     → (n : ℕ) (s : S) (text : List ℕ) → Within (length text) (turns turn n s text)
 turns_within turn leaves zero s text = tt
 turns_within turn leaves (suc n) s text =

@@ -20,3 +20,8 @@ pub mod Files
 pub mod Equations
 pub mod Reading
 pub mod FileFaults
+pub mod FieldMeaning
+pub mod FieldGrammar
+pub mod FieldFaults
+pub mod FieldReading
+pub mod FieldAnswers

@@ -44,8 +44,8 @@ fn place_of(names: &[u8], letter: u8) -> Option<u8>
     None
 }
 
-// The place among names of a word that is one of them.
-fn place_of_word(names: &[u8], word: &[u8]) -> Option<u8>
+/// The place among names of a word that is one of them.
+pub fn place_of_word(names: &[u8], word: &[u8]) -> Option<u8>
     requires { length names.now ≤ 8 }
     ensures value { result ≡ place_of_word names.now word.now }
     ensures within { IfSome result (λ i. i < length names.now) }

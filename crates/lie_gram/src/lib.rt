@@ -4,7 +4,14 @@
 mod coordinate;
 mod equations;
 mod fault;
+mod field;
+mod field_factors;
+mod field_parts;
+mod field_sum;
+mod field_term;
+mod field_terms;
 mod file;
+mod fraction;
 pub mod laws;
 mod lead;
 mod lines;
@@ -20,11 +27,17 @@ mod term;
 mod terms;
 
 pub use fault::{BadFile, BadKind, ReadFail};
+pub use field::read_field;
+pub use lie_jet::Field;
 pub use reading::read_system;
 pub use system::{Equation, System};
 
 #[cfg(test)]
 mod equation_tests;
+#[cfg(test)]
+mod field_limit_tests;
+#[cfg(test)]
+mod field_tests;
 #[cfg(test)]
 mod limit_tests;
 #[cfg(test)]

@@ -10,9 +10,9 @@ use crate::runs::after_blanks;
 use crate::stop::{Stop, stop_at};
 use lie_jet::Space;
 
-// The exponent behind a coordinate, and what is behind; `text` begins with the coordinate.
+/// The exponent behind a coordinate, and what is behind; `text` begins with the coordinate.
 #[tactic(auto, unfolding(crate::specs::Tokens::exponent_at))]
-fn exponent_at<'a>(text: &[u8], behind: &'a [u8]) -> Result<(u32, &'a [u8]), Stop>
+pub fn exponent_at<'a>(text: &[u8], behind: &'a [u8]) -> Result<(u32, &'a [u8]), Stop>
     ensures value { Gives (λ e. (e.0, e.1.now)) result (exponent_at text.now behind.now) }
     ensures low { IfOk result (λ e. 1 ≤ e.0) }
     ensures high { IfOk result (λ e. e.0 ≤ 32) }

@@ -15,7 +15,7 @@ use crate::system::System;
 use std::alloc::Global;
 
 /// The most bytes of a text.
-const MAX_BYTES: usize = 65_536;
+pub const MAX_BYTES: usize = 65_536;
 
 // Whether a byte is allowed before others.
 fn is_allowed(byte: u8, behind: &[u8]) -> bool
@@ -66,8 +66,8 @@ fn shown(place: usize) -> u32
     }
 }
 
-// A fault with its place.
-fn bad(line: usize, column: usize, kind: BadKind) -> ReadFail
+/// A fault with its place.
+pub fn bad(line: usize, column: usize, kind: BadKind) -> ReadFail
     ensures { result ≡ bad line column kind }
 {
     ReadFail::Bad(BadFile {

@@ -29,8 +29,8 @@ fn mono_of(alloc: Global, power: Power) -> Result<Mono, NoMemory>
     }
 }
 
-// The product of a monomial and a power; Exponent at the power where it has too high an exponent.
-fn raised(alloc: Global, mono: &Mono, power: Power, text: &[u8]) -> Result<Mono, LineFail>
+/// The product of a monomial and a power; Exponent at the power where it has too high an exponent.
+pub fn raised(alloc: Global, mono: &Mono, power: Power, text: &[u8]) -> Result<Mono, LineFail>
     requires small { HasSmallExponents mono.now }
     requires low { 1 ≤ power.exponent }
     requires high { power.exponent ≤ 32 }

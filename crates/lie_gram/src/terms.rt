@@ -18,8 +18,8 @@ pub struct Terms {
     ghost sized: { AreSizes sizes list.items },
 }
 
-// The sum of two numbers, up to 2^127 - 1.
-fn grown(size: u128, number: u128) -> Option<u128>
+/// The sum of two numbers, up to 2^127 - 1.
+pub fn grown(size: u128, number: u128) -> Option<u128>
     ensures { result ≡ (if nat_lt (size + number) (2 ^ 127) then Some (size + number) else None) }
 {
     let sum = size.checked_add(number)?;
@@ -30,8 +30,8 @@ fn grown(size: u128, number: u128) -> Option<u128>
     }
 }
 
-// The number with a sign.
-fn signed(negative: bool, number: u128) -> Option<Whole>
+/// The number with a sign.
+pub fn signed(negative: bool, number: u128) -> Option<Whole>
     requires { number < 2 ^ 127 }
     ensures { result ≡ Some (signed negative number) }
 {
@@ -82,8 +82,8 @@ impl Terms {
     }
 }
 
-// The map with a size at a key.
-fn with_size(
+/// The map with a size at a key.
+pub fn with_size(
     sizes: BTreeMap<Vec<(u32, u32)>, u128>,
     key: Vec<(u32, u32)>,
     size: u128,
