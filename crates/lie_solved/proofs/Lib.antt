@@ -1,4 +1,5 @@
 pub mod Variables
+pub mod OneRefusal
 pub mod Greatest
 pub mod LinearTerms
 pub mod OtherTerms
@@ -6,3 +7,4 @@ pub mod Leading
 pub mod RuleSteps
 pub mod FileEquations
 pub mod OneForm
+pub mod ReadyRules

@@ -54,7 +54,7 @@ module _ (S : Space) (is : IsSpace S) where
       (k.greatest v h.derivative h.occurs) (h.greatest w k.derivative k.occurs) in
       sym cv.1 ∙ ap (number S) (ranked_same S (coordinate S v) (coordinate S w) cv.0 cw.0 lv lw (degree_rank_is_ranking.same (ranked (coordinate S v)) (ranked (coordinate S w)) e)) ∙ cw.1
 
-  lead_same : (e : EquationRead) (v w : ℕ) → IsLead S e v → IsLead S e w → v ≡ w
+  pub lead_same : (e : EquationRead) (v w : ℕ) → IsLead S e v → IsLead S e w → v ≡ w
   lead_same e v w h k = go e.lead h k
     where
       go : (o : Option Coordinate) → IsLeadBy S o e.diff v → IsLeadBy S o e.diff w → v ≡ w
@@ -80,7 +80,7 @@ free_none w p h m n = go (zero_or_not (coefficient p m))
     go (inl e) = e
     go (inr o) = absurd (n (h m o))
 
-has_single : (w : ℕ) → ¬ (exponent (single w) w ≡ 0)
+pub has_single : (w : ℕ) → ¬ (exponent (single w) w ≡ 0)
 has_single w e = let o = exponent_single w in absurd (omega arith)
 
 at_lead : (r : SolvedEquation) → FreeOf r.lead r.right → coefficient (difference r) (single r.lead) ≡ r.factor
@@ -108,7 +108,7 @@ signed_at r P (inl e) m = inl (ap (λ p. coefficient p m) e)
 signed_at r P (inr e) m = inr (ap (λ p. coefficient p m) e ∙ coefficient-constant_times (negsuc 0) P m)
 
 module _ (S : Space) (e : EquationRead) (r : SolvedEquation) (h : IsSolvedBy S e r) where
-  apart : ¬ (coefficient e.diff (single r.lead) ≡ pos 0)
+  pub apart : ¬ (coefficient e.diff (single r.lead) ≡ pos 0)
   apart z = go (signed_at r e.diff h.same (single r.lead))
     where
       positive : (x y : ℤ) (n : ℕ) → x ≡ pos (suc n) → y ≡ pos 0 → (x ≡ y) ⊎ (x ≡ negsuc 0 *ℤ y) → ⊥
@@ -118,7 +118,7 @@ module _ (S : Space) (e : EquationRead) (r : SolvedEquation) (h : IsSolvedBy S e
       go : (coefficient (difference r) (single r.lead) ≡ coefficient e.diff (single r.lead)) ⊎ (coefficient (difference r) (single r.lead) ≡ negsuc 0 *ℤ coefficient e.diff (single r.lead)) → ⊥
       go s = positive (coefficient (difference r) (single r.lead)) (coefficient e.diff (single r.lead)) h.positive.0 (at_lead r h.free ∙ h.positive.1) z s
 
-  solved_linear : IsLinearIn r.lead e.diff
+  pub solved_linear : IsLinearIn r.lead e.diff
   solved_linear = record { term = apart; alone = λ m n o. go m n o (eq_by_cmp monomial_cmp m (single r.lead)) refl }
     where
       none : (x y : ℤ) → x ≡ pos 0 → (x ≡ y) ⊎ (x ≡ negsuc 0 *ℤ y) → y ≡ pos 0
@@ -140,7 +140,7 @@ rights_same r s l f h = ext terms r.right s.right (λ m. cancel (r.factor *ℤ c
     cancel a x y e = omega (arith, ints)
 
 module _ (S : Space) (is : IsSpace S) where
-  solved_same : (e : EquationRead) (r s : SolvedEquation) → IsSolvedBy S e r → IsSolvedBy S e s → r ≡ s
+  pub solved_same : (e : EquationRead) (r s : SolvedEquation) → IsSolvedBy S e r → IsSolvedBy S e s → r ≡ s
   solved_same e r s h k = rule_same r s leads factors (rights_same r s leads factors (λ m. all m (signs h.same k.same)))
     where
       leads : r.lead ≡ s.lead
@@ -168,7 +168,7 @@ module _ (S : Space) (is : IsSpace S) where
       factors : r.factor ≡ s.factor
       factors = sym (at_lead r h.free) ∙ all (single r.lead) (signs h.same k.same) ∙ at_s
 
-  all_same : (es : List EquationRead) (rs ss : List SolvedEquation) → AreSolvedBy S es rs → AreSolvedBy S es ss → rs ≡ ss
+  pub all_same : (es : List EquationRead) (rs ss : List SolvedEquation) → AreSolvedBy S es rs → AreSolvedBy S es ss → rs ≡ ss
   all_same [] [] [] h k = refl
   all_same [] [] (s ∷ ss) h k = absurd k
   all_same [] (r ∷ rs) ss h k = absurd h
@@ -177,15 +177,15 @@ module _ (S : Space) (is : IsSpace S) where
   all_same (e ∷ es) (r ∷ rs) (s ∷ ss) h k = ap₂ ◌∷◌ (solved_same e r s h.0 k.0) (all_same es rs ss h.1 k.1)
 
 -- ---- the rule of an equation in the middle
-record Middle (S : Space) (before : List EquationRead) (e : EquationRead) (rs : List SolvedEquation) : Type 0 where
-  first : List SolvedEquation
-  rule : SolvedEquation
-  rest : List SolvedEquation
-  place : rs ≡ first ++ rule ∷ rest
-  earlier : AreSolvedBy S before first
-  solves : IsSolvedBy S e rule
+pub record Middle (S : Space) (before : List EquationRead) (e : EquationRead) (rs : List SolvedEquation) : Type 0 where
+  pub first : List SolvedEquation
+  pub rule : SolvedEquation
+  pub rest : List SolvedEquation
+  pub place : rs ≡ first ++ rule ∷ rest
+  pub earlier : AreSolvedBy S before first
+  pub solves : IsSolvedBy S e rule
 
-middle_of : (S : Space) (before : List EquationRead) (e : EquationRead) (after : List EquationRead) (rs : List SolvedEquation) → AreSolvedBy S (before ++ e ∷ after) rs → Middle S before e rs
+pub middle_of : (S : Space) (before : List EquationRead) (e : EquationRead) (after : List EquationRead) (rs : List SolvedEquation) → AreSolvedBy S (before ++ e ∷ after) rs → Middle S before e rs
 middle_of S [] e after [] h = absurd h
 middle_of S [] e after (r ∷ rs) h = record { first = []; rule = r; rest = rs; place = refl; earlier = tt; solves = h.0 }
 middle_of S (d ∷ before) e after [] h = absurd h
@@ -202,7 +202,7 @@ middle_inside : (rs : List SolvedEquation) (r : SolvedEquation) (ss : List Solve
 middle_inside [] r ss = omega arith
 middle_inside (x ∷ rs) r ss = let h = middle_inside rs r ss in omega arith
 
-no_repeat : (rs : List SolvedEquation) (r : SolvedEquation) (ss : List SolvedEquation) → AllPairs (λ x y. ¬ (x.lead ≡ y.lead)) (rs ++ r ∷ ss) → is_lead rs r.lead ≡ true → ⊥
+pub no_repeat : (rs : List SolvedEquation) (r : SolvedEquation) (ss : List SolvedEquation) → AllPairs (λ x y. ¬ (x.lead ≡ y.lead)) (rs ++ r ∷ ss) → is_lead rs r.lead ≡ true → ⊥
 no_repeat [] r ss h e = true≢false (sym e)
 no_repeat (x ∷ rs) r ss h e = go (eqb r.lead x.lead) refl e (no_repeat rs r ss (λ i j d lt len. h (suc i) (suc j) d (omega arith) (omega arith)))
   where
@@ -212,7 +212,7 @@ no_repeat (x ∷ rs) r ss h e = go (eqb r.lead x.lead) refl e (no_repeat rs r ss
         h 0 (suc (length rs)) x (omega arith) (omega arith) (sym (eqb→eq r.lead x.lead (subst T (sym f) tt)) ∙ ap (λ (y : SolvedEquation). y.lead) (sym (at_middle rs r ss x)))
     go false f e rest = rest e
 
-every_middle : (Q : SolvedEquation → Type 0) (rs : List SolvedEquation) (r : SolvedEquation) (ss : List SolvedEquation) → Every Q (rs ++ r ∷ ss) → Q r
+pub every_middle : (Q : SolvedEquation → Type 0) (rs : List SolvedEquation) (r : SolvedEquation) (ss : List SolvedEquation) → Every Q (rs ++ r ∷ ss) → Q r
 every_middle Q [] r ss h = h.0
 every_middle Q (x ∷ rs) r ss h = every_middle Q rs r ss h.1
 
@@ -220,7 +220,7 @@ every_middle Q (x ∷ rs) r ss h = every_middle Q rs r ss h.1
 pub solved_form_is_one : SolvedFormIsOne
 solved_form_is_one S is es rs ss h k = all_same S is es rs ss h.equations k.equations
 
-not_below : (a b : ℕ) → b ≤ a → ltb a b ≡ false
+pub not_below : (a b : ℕ) → b ≤ a → ltb a b ≡ false
 not_below a b h = grind (arith, leb_tells)
 
 pub refused_has_no_form : RefusedHasNoForm

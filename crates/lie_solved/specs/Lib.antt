@@ -2,5 +2,6 @@ pub mod Leads
 pub mod SolvedForms
 pub mod Refusals
 pub mod Equations
+pub mod SolvedRules
 pub mod Causes
 pub mod Laws

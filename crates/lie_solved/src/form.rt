@@ -8,6 +8,7 @@ ghost use Rattle.lie_solved.specs.Causes.{failed_at};
 ghost use Rattle.lie_solved.specs.SolvedForms.{solved_equation, solved_equations, IsSolvedForm};
 ghost use Rattle.lie_solved.specs.Refusals.{IsReached, IsRefusal, HasNoLead, IsFirstInside};
 ghost use Rattle.lie_solved.specs.Equations.{IsWritten, AreWritten, IsRule, AreRules, HaveJets, variables_in, variables_of};
+ghost use Rattle.lie_solved.specs.SolvedRules.{AreSolvedRules};
 
 use crate::rule::{RuleFail, rule_of};
 use crate::solved::{LeadRule, NotKind, SolveFormFail, Solved};
@@ -129,6 +130,7 @@ pub fn solve_form(alloc: Global, system: System) -> Result<Solved, SolveFormFail
     requires { AreWritten system.space (system_read system).equations }
     ensures form { IfOk result (λ solved. IsSolvedForm system.space (system_read system).equations (solved_equations system.space solved.rules.items)) }
     ensures jets { IfOk result (λ solved. HaveJets system.space solved.rules.items) }
+    ensures ready { IfOk result (λ solved. AreSolvedRules solved.system.space solved.rules.items) }
     ensures system { IfOk result (λ solved. solved.system ≡ system) }
     ensures refusal { IfErr result (IsRefusal system.space (system_read system).equations) }
 {
