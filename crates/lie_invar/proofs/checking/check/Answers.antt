@@ -1,0 +1,18 @@
+use Rattle.std.proofs.Common.{subst}
+use Rattle.lie_math.specs.VectorField.{component}
+use Rattle.lie_jet.proofs.TotalParts.{if_ok}
+use Rattle.lie_jet.proofs.TotalSteps.{if_err}
+use Rattle.lie_solved.specs.SolvedForms.{solved_equations}
+use Rattle.lie_invar.specs.Actions.{IsActionCause}
+use Rattle.lie_invar.specs.Verdicts.{IsVerdict}
+use Rattle.lie_invar.proofs.checking.check.Goals as goal
+
+pub returns-clause-verdict : goal.returns-clause-verdict
+returns-clause-verdict c =
+    let S = c.args.solved.now.system.space in
+    if_ok c.verdict_of.result (λ v h. subst (λ rules. IsVerdict S (solved_equations S rules) (component c.args.field.now) v) c.as_slice.ensures.value h) c.verdict_of.ensures.verdict
+
+pub returns-clause-past : goal.returns-clause-past
+returns-clause-past c =
+    let S = c.args.solved.now.system.space in
+    if_err c.verdict_of.result (λ fail h. subst (λ rules. IsActionCause S (solved_equations S rules) (component c.args.field.now) fail) c.as_slice.ensures.value h) c.verdict_of.ensures.past

@@ -1,0 +1,13 @@
+pub mod Bulks
+pub mod Actions
+pub mod ReducedTerms
+pub mod Reductions
+pub mod Applications
+pub mod Verdicts
+pub mod SymbolicBulks
+pub mod AppliedForms
+pub mod SolvedRule
+pub mod Openings
+pub mod Equations
+pub mod Conditions
+pub mod Parts

@@ -1,0 +1,48 @@
+// The condition of an equation: what the prolonged field applied to it is reduced to.
+ghost use Rattle.std.specs.Prelude.{◌≡◌, ◌∷◌, [], IfOk, IfErr, OnOk};
+ghost use Rattle.lie_math.specs.Limits.{IsWithinLimits};
+ghost use Rattle.lie_math.specs.Polynomial.{WholePolynomial};
+ghost use Rattle.lie_geometry.specs.SolvedEquations.{reduced};
+ghost use Rattle.lie_poly.specs.Failures.{IsStarved};
+ghost use Rattle.lie_ring.specs.Causes.{IsCause};
+ghost use Rattle.lie_solved.specs.SolvedForms.{solved_equations};
+ghost use Rattle.lie_invar.specs.Bulks.{reduction_bulk};
+ghost use Rattle.lie_invar.specs.Reductions.{CanReduce};
+
+use crate::reduction::reduced_all;
+use crate::sizes::absolute_rules;
+use lie_jet::{JetPoly, Space, absolute_polynomial};
+use lie_ring::PolyFail;
+use lie_solved::LeadRule;
+use std::alloc::Global;
+
+/// The reduction of a polynomial: first with absolute values, where nothing cancels, and then truly.
+pub fn remainder(
+    alloc: Global,
+    space: Space,
+    rules: &[LeadRule],
+    applied: JetPoly,
+) -> Result<JetPoly, PolyFail>
+    requires { CanReduce space rules.now }
+    ensures value { IfOk result (λ made. made ≡ reduced (solved_equations space rules.now) applied) }
+    ensures fits { OnOk result (IsWithinLimits (reduction_bulk (solved_equations space rules.now) applied)) }
+    ensures past { IfErr result (λ fail. IsCause fail (reduction_bulk (solved_equations space rules.now) applied)) }
+{
+    let sized = absolute_rules(alloc, rules)?;
+    let size = absolute_polynomial(alloc, &applied)?;
+    let bulk = alone(reduced_all(alloc, space, sized.as_slice(), &[size])?)?;
+    let _ = bulk.len();
+    alone(reduced_all(alloc, space, rules, &[applied])?)
+}
+
+/// The polynomial of a list of one.
+fn alone(made: Vec<JetPoly>) -> Result<JetPoly, PolyFail>
+    ensures only { IfOk result (λ p. (P : WholePolynomial) → made.items ≡ P ∷ [] → p ≡ P) }
+    ensures memory { IfErr result IsStarved }
+{
+    let mut made = made;
+    match made.pop() {
+        Some(p) => Ok(p),
+        None => Err(PolyFail::NoMemory),
+    }
+}
