@@ -1,20 +1,9 @@
 -- The lemmas that the answers cite.
-pub mod Counted
-pub mod Terms
-pub mod Numbers
-pub mod Products
-pub mod Splits
-pub mod Sums
 pub mod Texts
-pub mod Entries
-pub mod Files
-pub mod Read
-pub mod DeterminingForm
-pub mod TripleLists
-pub mod PutIn
-pub mod Prolonged
-pub mod RightSides
-pub mod Leaves
-pub mod Complete
-pub mod Meaning
+pub mod Variables
+pub mod Lists
+pub mod Arguments
+pub mod SolvedFiles
+pub mod Due
+pub mod Failures
 pub mod Causes

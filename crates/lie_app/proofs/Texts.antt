@@ -1,15 +1,17 @@
 -- Texts that grow piece by piece, as loops make them.
-use Rattle.std.specs.Prelude.{ℕ, zero, suc, ◌≡◌, ◌+◌, ◌<◌, ◌≤◌, Bool, true, false, cond, ◌==◌, ◌||◌, List, [], ◌∷◌, ◌++◌, map, length, take, drop, nat_lt, refl, if◌then◌else◌, decimal, unsigned_abs, OnOk, Result, Ok, Err}
-use Rattle.std.specs.Int.{is_negative}
+use Rattle.std.specs.Prelude.{ℕ, zero, suc, ◌≡◌, ◌+◌, ◌<◌, ◌≤◌, Bool, true, false, cond, ◌==◌, ◌||◌, nat_lt, if◌then◌else◌, not, unsigned_abs, decimal, map, Option, Some, None, List, [], ◌∷◌, ◌++◌, length, drop, refl}
 use Rattle.std.proofs.Common.{sym, ap, ap₂, ◌∙◌, arith, get_or, append_assoc, add-one, drop-cons}
 use Rattle.std.proofs.lemmas.Bool.Decides.{nat_tests}
-use Rattle.std.proofs.lemmas.List.{take_more, map-append, append-nil}
+use Rattle.std.proofs.lemmas.List.{append-nil}
 use Rattle.std.proofs.Math.ListN.{drop_of_length-le}
-use Rattle.std.specs.List.{join_with_byte, list_any}
-use Rattle.lie_math.specs.Counts.{before_counts, trimmed}
-use Rattle.lie_app.specs.declared.triple.Triple.{Triple}
-use Rattle.lie_app.specs.Printing.{power_text, star, monomial_text, term_text, repeated, letters_from, is_one, triple_text, sign_text}
-use Rattle.lie_app.specs.Triples.{form_triple, signed_text}
+use Rattle.std.specs.List.{list_any, flat_map}
+use Rattle.lie_math.specs.Counts.{Derivative, before_counts, trimmed}
+use Rattle.lie_math.specs.LinearForm.{LinearForm}
+use Rattle.lie_geometry.specs.Coordinates.{Space}
+use Rattle.lie_jet.specs.declared.derivative.Der.{Der}
+use Rattle.lie_jet.specs.Derivatives.{derivative_of}
+use Rattle.lie_app.specs.Printing.{name_at, repeated, letters_from, subscript, derivative_text, power_text, star, behind, number_factor, last_factor, is_shown, is_further, PrintedTerm, term_text}
+use Rattle.lie_app.specs.Report.{component_line, general_lines}
 
 push-repeated : (n : ℕ) (piece : List ℕ) → repeated n piece ++ piece ≡ piece ++ repeated n piece
 unfolding repeated
@@ -20,58 +22,27 @@ pub repeated-more : (n : ℕ) (piece : List ℕ) → repeated (n + 1) piece ≡ 
 unfolding repeated
 repeated-more n piece = rw (add-one n) (sym (push-repeated n piece))
 
-abbrev stands : List (List ℕ) → Bool
-stands [] = false
-stands (x ∷ xs) = true
-
-join-push : (xs : List (List ℕ)) (y : List ℕ) → join_with_byte 42 (xs ++ y ∷ []) ≡ (join_with_byte 42 xs ++ star (stands xs)) ++ y
-join-push [] y = refl
-join-push (x ∷ []) y = sym (append_assoc x (42 ∷ []) y)
-join-push (x ∷ z ∷ xs) y =
-    ap (λ l. x ++ (42 ∷ l)) (join-push (z ∷ xs) y)
-    ∙ sym (append_assoc x (42 ∷ (join_with_byte 42 (z ∷ xs) ++ (42 ∷ []))) y)
-    ∙ ap (λ l. l ++ y) (sym (append_assoc x (42 ∷ join_with_byte 42 (z ∷ xs)) (42 ∷ [])))
-
-pub monomial_text-more : (names : List (List ℕ)) (m : List (ℕ × ℕ)) (i : ℕ) (d : ℕ × ℕ) → i < length m
-    → monomial_text names (take (i + 1) m) ≡ (monomial_text names (take i m) ++ star (nat_lt 0 i)) ++ power_text names (get_or m i d)
-unfolding monomial_text
-monomial_text-more names m i d lt =
-    ap (λ l. join_with_byte 42 (map (power_text names) l)) (take_more m i d lt)
-    ∙ ap (join_with_byte 42) (map-append (power_text names) (take i m) (get_or m i d ∷ []))
-    ∙ join-push (map (power_text names) (take i m)) (power_text names (get_or m i d))
-    ∙ ap (λ b. (join_with_byte 42 (map (power_text names) (take i m)) ++ star b) ++ power_text names (get_or m i d)) (begun m i lt)
-  where
-    begun : (m : List (ℕ × ℕ)) (i : ℕ) → i < length m → stands (map (power_text names) (take i m)) ≡ nat_lt 0 i
-    begun [] i lt = absurd (omega arith)
-    begun (x ∷ m) zero lt = refl
-    begun (x ∷ m) (suc i) lt = let t : nat_lt 0 (suc i) ≡ true = grind (arith, nat_tests) in sym t
-
-pub monomial_text-push : (names : List (List ℕ)) (m : List (ℕ × ℕ)) (i : ℕ) (d : ℕ × ℕ) (start text more last : List ℕ) → i < length m → text ≡ start ++ monomial_text names (take i m)
-    → more ≡ text ++ star (nat_lt 0 i) → last ≡ more ++ power_text names (get_or m i d) → last ≡ start ++ monomial_text names (take (i + 1) m)
-monomial_text-push names m i d start text more last lt text_is more_is last_is =
-    rw (monomial_text-more names m i d lt, last_is, more_is, text_is) (simp append_assoc)
-
-pub letters_from-push : (names : List (List ℕ)) (counts : List ℕ) (i e : ℕ) (text more all : List ℕ) → i < length counts
-    → more ≡ text ++ repeated (get_or counts i e) (get_or names i []) → text ++ letters_from names i (drop i counts) ≡ all → more ++ letters_from names (i + 1) (drop (i + 1) counts) ≡ all
+pub letters_from-push : (names counts : List ℕ) (i e : ℕ) (text more all : List ℕ) → i < length counts
+    → more ≡ text ++ repeated (get_or counts i e) (name_at names i) → text ++ letters_from names i (drop i counts) ≡ all → more ++ letters_from names (i + 1) (drop (i + 1) counts) ≡ all
 unfolding letters_from
 letters_from-push names counts i e text more all lt more_is so_far =
     ap (λ l. l ++ letters_from names (i + 1) (drop (i + 1) counts)) more_is
-    ∙ append_assoc text (repeated (get_or counts i e) (get_or names i [])) (letters_from names (i + 1) (drop (i + 1) counts))
+    ∙ append_assoc text (repeated (get_or counts i e) (name_at names i)) (letters_from names (i + 1) (drop (i + 1) counts))
     ∙ ap (λ l. text ++ l) (sym (step (drop i counts) (drop-cons counts i e lt))) ∙ so_far
   where
-    step : (rest : List ℕ) → rest ≡ get_or counts i e ∷ drop (suc i) counts → letters_from names i rest ≡ repeated (get_or counts i e) (get_or names i []) ++ letters_from names (i + 1) (drop (i + 1) counts)
+    step : (rest : List ℕ) → rest ≡ get_or counts i e ∷ drop (suc i) counts → letters_from names i rest ≡ repeated (get_or counts i e) (name_at names i) ++ letters_from names (i + 1) (drop (i + 1) counts)
     step rest h = rw (h, add-one i) refl
 
-pub letters_from-done : (names : List (List ℕ)) (counts : List ℕ) (i : ℕ) (text all : List ℕ) → length counts ≤ i → text ++ letters_from names i (drop i counts) ≡ all → text ≡ all
+pub letters_from-done : (names counts : List ℕ) (i : ℕ) (text all : List ℕ) → length counts ≤ i → text ++ letters_from names i (drop i counts) ≡ all → text ≡ all
 unfolding letters_from
 letters_from-done names counts i text all past so_far =
     sym (append-nil text) ∙ ap (λ l. text ++ l) (sym (ap (letters_from names i) (drop_of_length-le counts past))) ∙ so_far
 
-letters_from-zero : (names : List (List ℕ)) (i c : ℕ) → (c == 0) ≡ true → letters_from names i (c ∷ []) ≡ []
+letters_from-zero : (names : List ℕ) (i c : ℕ) → (c == 0) ≡ true → letters_from names i (c ∷ []) ≡ []
 unfolding letters_from repeated
 letters_from-zero names i c h = let none : c ≡ 0 = grind (arith, nat_tests, h) in rw none refl
 
-letters_from-before : (names : List (List ℕ)) (i c : ℕ) (J : List ℕ) → letters_from names i (before_counts c J) ≡ letters_from names i (c ∷ J)
+letters_from-before : (names : List ℕ) (i c : ℕ) (J : List ℕ) → letters_from names i (before_counts c J) ≡ letters_from names i (c ∷ J)
 unfolding letters_from
 letters_from-before names i c [] = go (c == 0) refl
   where
@@ -81,10 +52,10 @@ letters_from-before names i c [] = go (c == 0) refl
 letters_from-before names i c (d ∷ J) = refl
 
 -- the zeros at the end of the counts don't show
-pub letters_from-trimmed : (names : List (List ℕ)) (i : ℕ) (J : List ℕ) → letters_from names i (trimmed J) ≡ letters_from names i J
+pub letters_from-trimmed : (names : List ℕ) (i : ℕ) (J : List ℕ) → letters_from names i (trimmed J) ≡ letters_from names i J
 unfolding letters_from
 letters_from-trimmed names i [] = refl
-letters_from-trimmed names i (c ∷ J) = letters_from-before names i c (trimmed J) ∙ ap (λ l. repeated c (get_or names i []) ++ l) (letters_from-trimmed names (i + 1) J)
+letters_from-trimmed names i (c ∷ J) = letters_from-before names i c (trimmed J) ∙ ap (λ l. repeated c (name_at names i) ++ l) (letters_from-trimmed names (i + 1) J)
 
 derived-before : (c : ℕ) (J : List ℕ) → list_any (λ k. nat_lt 0 k) (before_counts c J) ≡ list_any (λ k. nat_lt 0 k) (c ∷ J)
 derived-before c [] = go (c == 0) refl
@@ -98,18 +69,76 @@ pub derived_trimmed : (J : List ℕ) → list_any (λ k. nat_lt 0 k) (trimmed J)
 derived_trimmed [] = refl
 derived_trimmed (c ∷ J) = derived-before c (trimmed J) ∙ ap (λ b. nat_lt 0 c || b) (derived_trimmed J)
 
--- a triple with all its counts, and with the counts without zeros at the end
-pub triple_text_trimmed : (names : List (List ℕ)) (size : ℕ) (m : List (ℕ × ℕ)) (unknown : ℕ) (J : List ℕ) → triple_text names size m unknown (trimmed J) ≡ triple_text names size m unknown J
-triple_text_trimmed names size m unknown J =
-    ap₂ (λ (b : Bool) (l : List ℕ). (if is_one size m then [] else term_text names size m ++ 42 ∷ []) ++ (102 ∷ decimal unknown ++ (if b then 95 ∷ l else [])))
-    (derived_trimmed J) (letters_from-trimmed names 0 J)
+-- a name derived by counts without zeros at the end
+pub subscript_trimmed : (names : List ℕ) (J : List ℕ) → subscript names (trimmed J) ≡ subscript names J
+subscript_trimmed names J = ap₂ (λ (b : Bool) (l : List ℕ). if b then 95 ∷ l else []) (derived_trimmed J) (letters_from-trimmed names 0 J)
 
-pub signed-appended : {E : Type 0} (names : List (List ℕ)) (further : Bool) (t : Triple) (result : Result (Unit {0}) E) (start text last : List ℕ)
-    → text ≡ start ++ sign_text further (is_negative t.coefficient)
-    → OnOk result (last ≡ text ++ triple_text names (unsigned_abs t.coefficient) t.monomial.list t.derivative.unknown t.derivative.counts)
-    → OnOk result (last ≡ start ++ signed_text names further (form_triple t))
-signed-appended names further t (Err e) start text last sign h = tt
-signed-appended names further t (Ok done) start text last sign h =
-    h ∙ ap (λ l. text ++ l) (sym (triple_text_trimmed names (unsigned_abs t.coefficient) t.monomial.list t.derivative.unknown t.derivative.counts))
-    ∙ ap (λ l. l ++ triple_text names (unsigned_abs t.coefficient) t.monomial.list t.derivative.unknown (trimmed t.derivative.counts)) sign
-    ∙ append_assoc start (sign_text further (is_negative t.coefficient)) _
+pub derivative_text-parts : (names : List ℕ) (d : Der) (start one two last : List ℕ) → one ≡ start ++ 102 ∷ [] → two ≡ one ++ decimal d.unknown → last ≡ two ++ subscript names d.counts
+    → last ≡ start ++ derivative_text names (derivative_of d)
+derivative_text-parts names d start one two last a b c = rw (subscript_trimmed names d.counts, c, b, a) (simp append_assoc)
+
+-- ---- factors
+starred-append : (xs ys : List (List ℕ)) → flat_map (λ g. 42 ∷ g) (xs ++ ys) ≡ flat_map (λ g. 42 ∷ g) xs ++ flat_map (λ g. 42 ∷ g) ys
+starred-append [] ys = refl
+starred-append (x ∷ xs) ys = ap (λ l. (42 ∷ x) ++ l) (starred-append xs ys) ∙ sym (append_assoc (42 ∷ x) (flat_map (λ g. 42 ∷ g) xs) (flat_map (λ g. 42 ∷ g) ys))
+
+behind-true : (xs : List (List ℕ)) → behind true xs ≡ flat_map (λ g. 42 ∷ g) xs
+behind-true [] = refl
+behind-true (x ∷ xs) = refl
+
+behind-append : (b : Bool) (x : List ℕ) (xs ys : List (List ℕ)) → behind b (x ∷ (xs ++ ys)) ≡ behind b (x ∷ xs) ++ behind true ys
+behind-append b x xs ys =
+    ap (λ l. star b ++ x ++ l) (starred-append xs ys ∙ ap (λ l. flat_map (λ g. 42 ∷ g) xs ++ l) (sym (behind-true ys)))
+    ∙ sym (append_assoc (star b ++ x) (flat_map (λ g. 42 ∷ g) xs) (behind true ys))
+
+-- the number, the powers and the derivative, one behind the other
+parts : Space → List ℕ → ℕ → List (ℕ × ℕ) → Option Derivative → List ℕ
+parts S names n ps d =
+    (if is_shown n ps d then decimal n else []) ++ (behind (is_shown n ps d) (map (power_text S names) ps) ++ behind (is_further (is_shown n ps d) ps) (last_factor names d))
+
+abbrev whole : Space → List ℕ → ℕ → List (ℕ × ℕ) → Option Derivative → List ℕ
+whole S names n ps d = behind false (number_factor n (map (power_text S names) ps ++ last_factor names d) ++ (map (power_text S names) ps ++ last_factor names d))
+
+parts-whole : (S : Space) (names : List ℕ) (n : ℕ) (ps : List (ℕ × ℕ)) (d : Option Derivative) → parts S names n ps d ≡ whole S names n ps d
+unfolding parts
+parts-whole S names n [] None = refl
+parts-whole S names n [] (Some d) = go (n == 1)
+  where
+    go : (b : Bool) → (if not b then decimal n else []) ++ ([] ++ behind (not b) (derivative_text names d ∷ [])) ≡ behind false ((if b then [] else decimal n ∷ []) ++ derivative_text names d ∷ [])
+    go true = refl
+    go false = refl
+parts-whole S names n (p ∷ ps) d = go (n == 1)
+  where
+    qs : List (List ℕ)
+    qs = map (power_text S names) ps
+
+    go : (b : Bool) → (if not b then decimal n else []) ++ (behind (not b) (power_text S names p ∷ map (power_text S names) ps) ++ behind true (last_factor names d))
+        ≡ behind false ((if b then [] else decimal n ∷ []) ++ (power_text S names p ∷ (map (power_text S names) ps ++ last_factor names d)))
+    go true = sym (behind-append false (power_text S names p) (map (power_text S names) ps) (last_factor names d))
+    go false =
+        ap (λ l. decimal n ++ l) (sym (behind-append true (power_text S names p) (map (power_text S names) ps) (last_factor names d)))
+
+pub term_text-parts : (S : Space) (names : List ℕ) (t : PrintedTerm) (start one two last : List ℕ)
+    → one ≡ start ++ (if is_shown (unsigned_abs t.0) t.1.list t.2 then decimal (unsigned_abs t.0) else [])
+    → two ≡ one ++ behind (is_shown (unsigned_abs t.0) t.1.list t.2) (map (power_text S names) t.1.list)
+    → last ≡ two ++ behind (is_further (is_shown (unsigned_abs t.0) t.1.list t.2) t.1.list) (last_factor names t.2)
+    → last ≡ start ++ term_text S names t
+unfolding parts
+term_text-parts S names t start one two last a b c = rw (c, b, a) (simp append_assoc) ∙ ap (λ l. start ++ l) (parts-whole S names (unsigned_abs t.0) t.1.list t.2)
+
+-- ---- lines of components
+pub general_lines-push : (S : Space) (names : List ℕ) (Es : List LinearForm) (i : ℕ) (e : LinearForm) (text more all : List ℕ) → i < length Es
+    → more ≡ text ++ component_line S names i (get_or Es i e) → text ++ general_lines S names i (drop i Es) ≡ all → more ++ general_lines S names (i + 1) (drop (i + 1) Es) ≡ all
+unfolding general_lines
+general_lines-push S names Es i e text more all lt more_is so_far =
+    ap (λ l. l ++ general_lines S names (i + 1) (drop (i + 1) Es)) more_is
+    ∙ append_assoc text (component_line S names i (get_or Es i e)) (general_lines S names (i + 1) (drop (i + 1) Es))
+    ∙ ap (λ l. text ++ l) (sym (step (drop i Es) (drop-cons Es i e lt))) ∙ so_far
+  where
+    step : (rest : List LinearForm) → rest ≡ get_or Es i e ∷ drop (suc i) Es → general_lines S names i rest ≡ component_line S names i (get_or Es i e) ++ general_lines S names (i + 1) (drop (i + 1) Es)
+    step rest h = rw (h, add-one i) refl
+
+pub general_lines-done : (S : Space) (names : List ℕ) (Es : List LinearForm) (i : ℕ) (text all : List ℕ) → length Es ≤ i → text ++ general_lines S names i (drop i Es) ≡ all → text ≡ all
+unfolding general_lines
+general_lines-done S names Es i text all past so_far =
+    sym (append-nil text) ∙ ap (λ l. text ++ l) (sym (ap (general_lines S names i) (drop_of_length-le Es past))) ∙ so_far

@@ -1,33 +1,58 @@
--- The text of the report of an equation of order one.
-use Rattle.std.specs.Prelude.{ℕ, List, [], ◌∷◌, ◌++◌, codes}
-use Rattle.lie_app.specs.Determining.{determining_form}
-use Rattle.lie_app.specs.Grammar.{Stated}
-use Rattle.lie_app.specs.Triples.{FormTriple, triples_of, sum_text}
+-- The text of a report of a linear system, and the line of a check.
+use Rattle.std.specs.Prelude.{ℕ, ◌+◌, List, [], ◌∷◌, ◌++◌, map, take, drop, length, codes, decimal}
+use Rattle.std.specs.List.{flat_map}
+use Rattle.lie_math.specs.LinearForm.{LinearForm}
+use Rattle.lie_math.specs.LinearSystem.{Unknown, LinearSystem}
+use Rattle.lie_geometry.specs.Coordinates.{Space}
+use Rattle.lie_invar.specs.declared.verdict.Verdict.{Verdict}
+use Rattle.lie_invar.specs.declared.verdict.Verdict.TheVariants.{Yes, No}
+use Rattle.lie_app.specs.Printing.{name_at, sum_text}
+use Rattle.lie_app.specs.Terms.{polynomial_terms, form_terms}
 
--- the names
-unfoldable pub names : ℕ → ℕ → List ℕ
-names x u = codes "lie determining 1\nvars " ++ (x ∷ []) ++ codes "\ndeps " ++ (u ∷ []) ++ codes "\n"
+-- ---- reports
+-- a keyword and names, with a blank before each name
+abbrev pub names_line : List ℕ → List ℕ → List ℕ
+names_line keyword names = keyword ++ flat_map (λ n. 32 ∷ n ∷ []) names ++ codes "\n"
 
--- the unknowns, of both variables
-unfoldable pub unknowns : ℕ → ℕ → List ℕ
-unknowns x u =
-    codes "free f1(" ++ (x ∷ []) ++ codes "," ++ (u ∷ []) ++ codes ")\nfree f2(" ++ (x ∷ []) ++ codes "," ++ (u ∷ []) ++ codes ")\n"
+-- texts with commas between them
+abbrev pub listed : List (List ℕ) → List ℕ
+listed [] = []
+listed (f ∷ fs) = f ++ flat_map (λ g. 44 ∷ g) fs
 
--- each component is its unknown
-unfoldable pub general : ℕ → ℕ → List ℕ
-general x u = codes "general " ++ (x ∷ []) ++ codes " = f1\ngeneral " ++ (u ∷ []) ++ codes " = f2\n"
+-- an unknown and its variables
+abbrev pub free_line : List ℕ → Unknown → List ℕ
+free_line names f = codes "free f" ++ decimal f.number ++ codes "(" ++ listed (map (name_at names) f.variables) ++ codes ")\n"
 
--- the names of the two variables
-abbrev pub letters : ℕ → ℕ → List (List ℕ)
-letters x u = (x ∷ []) ∷ (u ∷ []) ∷ []
+-- the component of a field at the i-th variable
+abbrev pub component_line : Space → List ℕ → ℕ → LinearForm → List ℕ
+component_line S names i E = codes "general " ++ name_at names i ++ codes " = " ++ sum_text S names (form_terms E) ++ codes "\n"
 
--- the one equation that remains
-abbrev pub remaining : ℕ → ℕ → List FormTriple → List ℕ
-remaining x u ts = codes "remaining 1\n" ++ sum_text (letters x u) ts ++ codes " = 0\n"
+-- the components from the i-th variable on
+unfoldable pub general_lines : Space → List ℕ → ℕ → List LinearForm → List ℕ
+general_lines S names i [] = []
+general_lines S names i (E ∷ Es) = component_line S names i E ++ general_lines S names (i + 1) Es
 
-abbrev pub report_text : ℕ → ℕ → List FormTriple → List ℕ
-report_text x u ts = names x u ++ unknowns x u ++ general x u ++ remaining x u ts ++ codes "end\n"
+abbrev pub equation_line : Space → List ℕ → LinearForm → List ℕ
+equation_line S names E = sum_text S names (form_terms E) ++ codes " = 0\n"
 
--- the report of an equation u_x = h
-abbrev pub report : Stated → List ℕ
-report e = report_text e.independent e.dependent (triples_of (determining_form e.right))
+-- the first line, and the names
+abbrev pub head : Space → List ℕ → List ℕ
+head S names = codes "lie determining 1\n" ++ names_line (codes "vars") (take S.p names) ++ names_line (codes "deps") (drop S.p names)
+
+-- how many equations remain, and their lines
+abbrev pub remaining : Space → List ℕ → List LinearForm → List ℕ
+remaining S names Es = codes "remaining " ++ decimal (length Es) ++ codes "\n" ++ flat_map (equation_line S names) Es
+
+-- the names, the unknowns, the general form and the equations that remain
+abbrev pub report_of : Space → List ℕ → List Unknown → List LinearForm → List LinearForm → List ℕ
+report_of S names unknowns general equations = head S names ++ flat_map (free_line names) unknowns ++ general_lines S names 0 general ++ remaining S names equations ++ codes "end\n"
+
+-- the report of a system
+abbrev pub report : Space → List ℕ → LinearSystem → List ℕ
+report S names T = report_of S names T.unknowns T.general T.equations
+
+-- ---- checks
+-- whether a field is invariant, and where it is not the equation whose condition fails, and what remains of that
+abbrev pub verdict_line : Space → List ℕ → Verdict → List ℕ
+verdict_line S names Yes = codes "yes\n"
+verdict_line S names (No k P) = codes "no equation " ++ decimal k ++ codes " remainder " ++ sum_text S names (polynomial_terms P) ++ codes "\n"

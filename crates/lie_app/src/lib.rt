@@ -1,19 +1,28 @@
-//! The top call: from the words of a command line over files to the report of a determining equation.
+//! The top call: from the words of a command line over files to a report.
 #![tactic(auto)]
 
-mod determining;
-mod equation;
+mod line;
+mod names;
 mod printing;
-mod reading;
 mod report;
 mod status;
-mod sum;
+mod term;
 mod top;
-mod triple;
 mod words;
+mod work;
 
-pub use status::{Status, code};
+pub use status::{Source, Status, code};
 pub use top::run;
 
+#[cfg(test)]
+mod example_files;
+#[cfg(test)]
+mod example_reports;
+#[cfg(test)]
+mod examples_tests;
+#[cfg(test)]
+mod path_tests;
+#[cfg(test)]
+mod printing_tests;
 #[cfg(test)]
 mod tests;

@@ -1,166 +1,154 @@
-// Numbers, monomials and sums of triples as text.
-ghost use Rattle.std.specs.Prelude.{◌≡◌, ◌++◌, ◌∷◌, [], OnOk, map, slice_index_or, decimal, nat_lt, true};
-ghost use Rattle.std.specs.List.{list_any, flat_map};
-ghost use Rattle.lie_app.specs.Triples.{form_triple, signed_text, sum_text};
-ghost use Rattle.lie_app.specs.Printing.{power_text, star, monomial_text, term_text, repeated, letters_from, derivative_text, triple_text, sign_text};
+// Terms and sums as text.
+ghost use Rattle.std.specs.Prelude.{◌≡◌, ◌++◌, ◌∷◌, [], OnOk, map, true, option_map, decimal, if◌then◌else◌};
+ghost use Rattle.std.specs.List.{flat_map};
+ghost use Rattle.lie_jet.specs.Derivatives.{derivative_of};
+ghost use Rattle.lie_app.specs.Terms.{printed};
+ghost use Rattle.lie_app.specs.Printing.{power_text, star, behind, last_factor, is_shown, is_further, term_text, sign_text, signed_text, sum_text};
 
-use crate::triple::Triple;
-use lie_ring::{Bytes, Ring};
+use crate::names::{push_derivative, push_number, push_text, push_variable};
+use crate::term::Term;
+use lie_jet::{Der, Space};
+use lie_ring::Ring;
 use std::alloc::{AllocError, Global};
 
-/// Appends a text.
-pub fn push_text(text: &mut Vec<u8>, more: &[u8]) -> Result<(), AllocError>
-    ensures { OnOk result (text.new.items ≡ text.old.items ++ more.now) }
-{
-    text.extend_from_slice(more)?;
-    Ok(())
-}
-
-// Appends a number in decimal digits.
-fn push_number(text: &mut Vec<u8>, alloc: Global, number: u128) -> Result<(), AllocError>
-    ensures { OnOk result (text.new.items ≡ text.old.items ++ decimal number) }
-{
-    let digits = format!(in alloc; "{number}")?;
-    push_text(text, digits.as_bytes())
-}
-
-// The name of a variable; empty where it has none.
-fn name_of(names: &[Bytes], variable: usize) -> &[u8]
-    ensures { result.now ≡ slice_index_or names.now variable [] }
-{
-    match names.get(variable) {
-        Some(name) => name.bytes(),
-        None => &[],
-    }
-}
-
-// Appends a power: the name, and `^` and the exponent where that is not 1.
+// Appends a power: the variable, and `^` and the exponent where that is not 1.
 fn push_power(
     text: &mut Vec<u8>,
     alloc: Global,
-    names: &[Bytes],
-    variable: u32,
-    exponent: u32,
+    space: Space,
+    names: &[u8],
+    power: (u32, u32),
 ) -> Result<(), AllocError>
-    ensures { OnOk result (text.new.items ≡ text.old.items ++ power_text names.now (variable, exponent)) }
+    ensures { OnOk result (text.new.items ≡ text.old.items ++ power_text space names.now power) }
 {
-    push_text(text, name_of(names, variable as usize))?;
-    if exponent != 1 {
+    push_variable(text, space, names, power.0)?;
+    if power.1 != 1 {
         push_text(text, b"^")?;
-        push_number(text, alloc, u128::from(exponent))?;
+        push_number(text, alloc, u128::from(power.1))?;
     }
     Ok(())
 }
 
 // Appends a star behind what stands before, if anything does.
-fn push_star(text: &mut Vec<u8>, behind: bool) -> Result<(), AllocError>
-    ensures { OnOk result (text.new.items ≡ text.old.items ++ star behind) }
+fn push_star(text: &mut Vec<u8>, further: bool) -> Result<(), AllocError>
+    ensures { OnOk result (text.new.items ≡ text.old.items ++ star further) }
 {
-    if behind {
+    if further {
         push_text(text, b"*")?;
     }
     Ok(())
 }
 
-// Appends the powers of a monomial, with stars between them.
-fn push_monomial(
+// Appends powers, each behind a star.
+fn push_further_powers(
     text: &mut Vec<u8>,
     alloc: Global,
-    names: &[Bytes],
+    space: Space,
+    names: &[u8],
     powers: &[(u32, u32)],
 ) -> Result<(), AllocError>
-    ensures { OnOk result (text.new.items ≡ text.old.items ++ monomial_text names.now powers.now) }
+    ensures { OnOk result (text.new.items ≡ text.old.items ++ flat_map (λ g. 42 ∷ g) (map (power_text space names.now) powers.now)) }
 {
-    for (i, (variable, exponent)) in powers.iter().enumerate() {
-        push_star(text, i > 0)?;
-        push_power(text, alloc, names, *variable, *exponent)?;
+    for power in powers {
+        push_text(text, b"*")?;
+        push_power(text, alloc, space, names, *power)?;
     }
     Ok(())
 }
 
-// Appends a term without its sign: the number, unless it is 1 before a monomial, and the monomial.
+// Appends powers behind other factors, or as the first ones.
+fn push_powers(
+    text: &mut Vec<u8>,
+    alloc: Global,
+    space: Space,
+    names: &[u8],
+    further: bool,
+    powers: &[(u32, u32)],
+) -> Result<(), AllocError>
+    ensures { OnOk result (text.new.items ≡ text.old.items ++ behind further (map (power_text space names.now) powers.now)) }
+{
+    match powers {
+        [] => Ok(()),
+        [first, rest @ ..] => {
+            push_star(text, further)?;
+            push_power(text, alloc, space, names, *first)?;
+            push_further_powers(text, alloc, space, names, rest)
+        }
+    }
+}
+
+// Whether the number of a term is shown: not where it is 1 before other factors.
+fn is_shown(size: u128, powers: &[(u32, u32)], derivative: &Option<Der>) -> bool
+    ensures { result ≡ is_shown size powers.now (option_map derivative_of derivative.now) }
+{
+    match (powers, derivative) {
+        ([], None) => true,
+        _ => size != 1,
+    }
+}
+
+// Whether a factor stands before what comes behind powers.
+fn is_further(shown: bool, powers: &[(u32, u32)]) -> bool
+    ensures { result ≡ is_further shown powers.now }
+{
+    match powers {
+        [] => shown,
+        _ => true,
+    }
+}
+
+// Appends the number of a term where it is not left out.
+fn push_shown(text: &mut Vec<u8>, alloc: Global, size: u128, shown: bool) -> Result<(), AllocError>
+    ensures { OnOk result (text.new.items ≡ text.old.items ++ (if shown then decimal size else [])) }
+{
+    if shown {
+        push_number(text, alloc, size)?;
+    }
+    Ok(())
+}
+
+// Appends a derivative of an unknown, where there is one, behind other factors or as the first.
+fn push_last(
+    text: &mut Vec<u8>,
+    alloc: Global,
+    names: &[u8],
+    further: bool,
+    derivative: &Option<Der>,
+) -> Result<(), AllocError>
+    ensures { OnOk result (text.new.items ≡ text.old.items ++ behind further (last_factor names.now (option_map derivative_of derivative.now))) }
+{
+    match derivative {
+        Some(derivative) => {
+            push_star(text, further)?;
+            push_derivative(text, alloc, names, derivative)
+        }
+        None => Ok(()),
+    }
+}
+
+// Appends a term without its sign: the number, unless it is 1 before other factors, the powers and the derivative.
 fn push_term(
     text: &mut Vec<u8>,
     alloc: Global,
-    names: &[Bytes],
-    size: u128,
-    powers: &[(u32, u32)],
+    space: Space,
+    names: &[u8],
+    term: &Term,
 ) -> Result<(), AllocError>
-    ensures { OnOk result (text.new.items ≡ text.old.items ++ term_text names.now size powers.now) }
+    ensures { OnOk result (text.new.items ≡ text.old.items ++ term_text space names.now (printed term.now)) }
 {
-    if powers.is_empty() {
-        return push_number(text, alloc, size);
-    }
-    if size != 1 {
-        push_number(text, alloc, size)?;
-        push_text(text, b"*")?;
-    }
-    push_monomial(text, alloc, names, powers)
-}
-
-/// Appends a text.some times.
-fn push_repeated(text: &mut Vec<u8>, piece: &[u8], count: u8) -> Result<(), AllocError>
-    ensures { OnOk result (text.new.items ≡ text.old.items ++ repeated count piece.now) }
-{
-    for _ in 0..count {
-        push_text(text, piece)?;
-    }
+    let size = term.number.size();
+    let powers = term.monomial.pairs();
+    let shown = is_shown(size, powers, &term.derivative);
+    push_shown(text, alloc, size, shown)?;
+    push_powers(text, alloc, space, names, shown, powers)?;
+    push_last(
+        text,
+        alloc,
+        names,
+        is_further(shown, powers),
+        &term.derivative,
+    )?;
     Ok(())
-}
-
-// Appends the variables of a derivative, each as often as its count.
-fn push_letters(text: &mut Vec<u8>, names: &[Bytes], counts: &[u8]) -> Result<(), AllocError>
-    ensures { OnOk result (text.new.items ≡ text.old.items ++ letters_from names.now 0 counts.now) }
-{
-    for (i, count) in counts.iter().enumerate() {
-        push_repeated(text, name_of(names, i), *count)?;
-    }
-    Ok(())
-}
-
-// Whether a count is not 0.
-fn is_derived(counts: &[u8]) -> bool
-    ensures { result ≡ list_any (λ c. nat_lt 0 c) counts.now }
-{
-    counts.iter().any(|count| *count > 0)
-}
-
-// Appends a derivative of an unknown: `f`, its number, and where its order is not 0 `_` and its letters.
-fn push_derivative(
-    text: &mut Vec<u8>,
-    alloc: Global,
-    names: &[Bytes],
-    unknown: u32,
-    counts: &[u8],
-) -> Result<(), AllocError>
-    ensures { OnOk result (text.new.items ≡ text.old.items ++ derivative_text names.now unknown counts.now) }
-{
-    push_text(text, b"f")?;
-    push_number(text, alloc, u128::from(unknown))?;
-    if is_derived(counts) {
-        push_text(text, b"_")?;
-        push_letters(text, names, counts)?;
-    }
-    Ok(())
-}
-
-// Appends a triple without its sign: a term whose last factor is the derivative.
-fn push_triple(
-    text: &mut Vec<u8>,
-    alloc: Global,
-    names: &[Bytes],
-    size: u128,
-    powers: &[(u32, u32)],
-    unknown: u32,
-    counts: &[u8],
-) -> Result<(), AllocError>
-    ensures { OnOk result (text.new.items ≡ text.old.items ++ triple_text names.now size powers.now unknown counts.now) }
-{
-    if size != 1 || !powers.is_empty() {
-        push_term(text, alloc, names, size, powers)?;
-        push_text(text, b"*")?;
-    }
-    push_derivative(text, alloc, names, unknown, counts)
 }
 
 // Appends the sign before a term: a bare minus before the first, and one with blanks before a further term.
@@ -175,57 +163,52 @@ fn push_sign(text: &mut Vec<u8>, further: bool, negative: bool) -> Result<(), Al
     }
 }
 
-// Appends a triple with its sign.
+// Appends a term with its sign.
 fn push_signed(
     text: &mut Vec<u8>,
     alloc: Global,
-    names: &[Bytes],
+    space: Space,
+    names: &[u8],
     further: bool,
-    triple: &Triple,
+    term: &Term,
 ) -> Result<(), AllocError>
-    ensures { OnOk result (text.new.items ≡ text.old.items ++ signed_text names.now further (form_triple triple.now)) }
+    ensures { OnOk result (text.new.items ≡ text.old.items ++ signed_text space names.now further (printed term.now)) }
 {
-    push_sign(text, further, triple.coefficient.get() < 0)?;
-    push_triple(
-        text,
-        alloc,
-        names,
-        triple.coefficient.size(),
-        triple.monomial.pairs(),
-        triple.derivative.unknown,
-        &triple.derivative.counts,
-    )
+    push_sign(text, further, term.number.get() < 0)?;
+    push_term(text, alloc, space, names, term)
 }
 
-// Appends further triples.
+// Appends further terms.
 fn push_further(
     text: &mut Vec<u8>,
     alloc: Global,
-    names: &[Bytes],
-    triples: &[Triple],
+    space: Space,
+    names: &[u8],
+    terms: &[Term],
 ) -> Result<(), AllocError>
-    ensures { OnOk result (text.new.items ≡ text.old.items ++ flat_map (signed_text names.now true) (map form_triple triples.now)) }
+    ensures { OnOk result (text.new.items ≡ text.old.items ++ flat_map (signed_text space names.now true) (map printed terms.now)) }
 {
-    for triple in triples {
-        push_signed(text, alloc, names, true, triple)?;
+    for term in terms {
+        push_signed(text, alloc, space, names, true, term)?;
     }
     Ok(())
 }
 
-/// Appends a sum of triples; that of none is 0.
+/// Appends a sum of terms; that of none is 0.
 pub fn push_sum(
     text: &mut Vec<u8>,
     alloc: Global,
-    names: &[Bytes],
-    triples: &[Triple],
+    space: Space,
+    names: &[u8],
+    terms: &[Term],
 ) -> Result<(), AllocError>
-    ensures { OnOk result (text.new.items ≡ text.old.items ++ sum_text names.now (map form_triple triples.now)) }
+    ensures { OnOk result (text.new.items ≡ text.old.items ++ sum_text space names.now (map printed terms.now)) }
 {
-    match triples {
+    match terms {
         [] => push_text(text, b"0"),
         [first, rest @ ..] => {
-            push_signed(text, alloc, names, false, first)?;
-            push_further(text, alloc, names, rest)
+            push_signed(text, alloc, space, names, false, first)?;
+            push_further(text, alloc, space, names, rest)
         }
     }
 }

@@ -1,45 +1,18 @@
 // The top call over fakes, with ample memory: the text, the line and the status of each outcome.
 use super::*;
+use lie_gram::{BadFile, BadKind};
 use lie_outer::{Bytes, MemoryFiles, MemorySink, Text};
-use lie_ring::PastKind;
+use lie_solved::NotKind;
 use std::alloc::Global;
 use std::process::Abort;
 use std::test::Fail;
 
-const GROWTH_REPORT: &[u8] = b"lie determining 1\nvars x\ndeps u\nfree f1(x,u)\nfree f2(x,u)\n\
-    general x = f1\ngeneral u = f2\nremaining 1\nf2_x + u*f2_u - u*f1_x - u^2*f1_u - f2 = 0\nend\n";
-
-const SLOPE_REPORT: &[u8] = b"lie determining 1\nvars x\ndeps u\nfree f1(x,u)\nfree f2(x,u)\n\
-    general x = f1\ngeneral u = f2\nremaining 1\nf2_x + x*f2_u - x*f1_x - x^2*f1_u - f1 = 0\nend\n";
-
-// The files `growth`, `slope` and `heat`.
-fn content(rt: &impl Abort, alloc: Global) -> Result<Vec<(Text, Bytes)>, Fail> {
-    let mut files = Vec::new(alloc);
-    for (name, bytes) in [
-        (
-            "growth",
-            b"lie 1\nvars x\ndeps u\neq u_x = u\nend\n".as_slice(),
-        ),
-        (
-            "slope",
-            b"lie 1\nvars x\ndeps u\neq u_x = x\nend\n".as_slice(),
-        ),
-        (
-            "heat",
-            b"lie 1\nvars x t\ndeps u\neq u_t = u_xx\nend\n".as_slice(),
-        ),
-    ] {
-        let name = Text::of(alloc, name.as_bytes())?.expect(rt, "ASCII");
-        files.push((name, Bytes::of(alloc, bytes)?))?;
-    }
-    Ok(files)
-}
-
-// One call, with the numbers of the reads and puts that are to fail.
-fn check(
+// One call, with one file and the numbers of the reads and puts that are to fail.
+pub fn check(
     rt: &impl Abort,
     alloc: Global,
     words: &[&str],
+    file: &[u8],
     (failing_reads, failing_puts): (&[u64], &[u64]),
     want: (Status, &[u8], &[u8]),
 ) -> Result<(), Fail> {
@@ -47,7 +20,9 @@ fn check(
     for word in words {
         owned.push(String::from_str(alloc, *word)?)?;
     }
-    let mut files = MemoryFiles::new(content(rt, alloc)?, failing_reads.to_vec(alloc)?);
+    let name = Text::of(alloc, b"f")?.expect(rt, "ASCII");
+    let content = vec![in alloc; (name, Bytes::of(alloc, file)?)]?;
+    let mut files = MemoryFiles::new(content, failing_reads.to_vec(alloc)?);
     let mut out = MemorySink::new(Bytes::of(alloc, b"")?, failing_puts.to_vec(alloc)?);
     let mut err = MemorySink::new(Bytes::of(alloc, b"")?, Vec::new(alloc));
     let status = run(alloc, &owned, &mut files, &mut out, &mut err);
@@ -57,142 +32,108 @@ fn check(
     Ok(())
 }
 
-#[test]
-fn each_status_is_told(rt: HostRuntime) -> Result<(), Fail> {
-    let alloc = rt.alloc();
-    let usage = (Status::Usage, b"".as_slice(), b"lie: usage\n".as_slice());
-    let growth = (Status::Done, GROWTH_REPORT, b"".as_slice());
-    for (words, want) in [
-        (["determine", "growth"].as_slice(), growth),
-        (["determine", "--", "growth"].as_slice(), growth),
-        (["determine", "growth", "--"].as_slice(), growth),
-        (
-            ["determine", "slope"].as_slice(),
-            (Status::Done, SLOPE_REPORT, b"".as_slice()),
-        ),
-        (
-            ["determine", "heat"].as_slice(),
-            (
-                Status::NotBuilt,
-                b"".as_slice(),
-                b"lie: not built\n".as_slice(),
-            ),
-        ),
-        (
-            ["determine", "wave"].as_slice(),
-            (
-                Status::Missing,
-                b"".as_slice(),
-                b"lie: missing\n".as_slice(),
-            ),
-        ),
-        ([].as_slice(), usage),
-        (["determine"].as_slice(), usage),
-        (["fly", "growth"].as_slice(), usage),
-        (["determine", "-growth"].as_slice(), usage),
-        (["determine", "growth", "slope"].as_slice(), usage),
-    ] {
-        check(&rt, alloc, words, (&[], &[]), want)?;
-    }
-    Ok(())
+// A call whose words are wrong.
+fn is_usage(rt: &impl Abort, alloc: Global, words: &[&str]) -> Result<(), Fail> {
+    let want = (Status::Usage, b"".as_slice(), b"lie: usage\n".as_slice());
+    check(rt, alloc, words, b"", (&[], &[]), want)
+}
+
+// A call whose words are right, of a file that is not there.
+fn is_missing(rt: &impl Abort, alloc: Global, words: &[&str]) -> Result<(), Fail> {
+    let want = (
+        Status::Missing,
+        b"".as_slice(),
+        b"lie: missing\n".as_slice(),
+    );
+    check(rt, alloc, words, b"", (&[], &[]), want)
 }
 
 #[test]
-fn faults_are_told(rt: HostRuntime) -> Result<(), Fail> {
+fn words_are_parted_at_the_dashes(rt: HostRuntime) -> Result<(), Fail> {
     let alloc = rt.alloc();
-    let words = ["determine", "growth"];
-    let read = (
+    is_usage(&rt, alloc, &[])?;
+    is_usage(&rt, alloc, &["determine"])?;
+    is_usage(&rt, alloc, &["fly", "g"])?;
+    is_usage(&rt, alloc, &["determine", "-g"])?;
+    is_usage(&rt, alloc, &["determine", "g", "h"])?;
+    is_usage(&rt, alloc, &["determine", "--", "g", "--"])?;
+    is_usage(&rt, alloc, &["check", "g"])?;
+    is_usage(&rt, alloc, &["check", "g", "-d_x"])?;
+    is_usage(&rt, alloc, &["check", "g", "d_x", "0"])?;
+    is_missing(&rt, alloc, &["determine", "g"])?;
+    is_missing(&rt, alloc, &["determine", "--", "-g"])?;
+    is_missing(&rt, alloc, &["determine", "g", "--"])?;
+    is_missing(&rt, alloc, &["determine", "-"])?;
+    is_missing(&rt, alloc, &["check", "g", "d_x"])?;
+    is_missing(&rt, alloc, &["check", "g", "--", "-d_x"])?;
+    is_missing(&rt, alloc, &["check", "--", "g", "-d_x"])?;
+    is_missing(&rt, alloc, &["check", "g", "d_x", "--"])
+}
+
+// A file with a fault.
+fn is_bad(
+    rt: &impl Abort,
+    alloc: Global,
+    file: &[u8],
+    (line, column, kind): (u32, u32, BadKind),
+    text: &[u8],
+) -> Result<(), Fail> {
+    let status = Status::Bad(Source::File, BadFile { line, column, kind });
+    let want = (status, b"".as_slice(), text);
+    check(rt, alloc, &["determine", "f"], file, (&[], &[]), want)?;
+    check(rt, alloc, &["check", "f", "?"], file, (&[], &[]), want)
+}
+
+#[test]
+fn faults_of_files_are_told(rt: HostRuntime) -> Result<(), Fail> {
+    let alloc = rt.alloc();
+    let kind = (1, 1, BadKind::Header);
+    is_bad(&rt, alloc, b"", kind, b"lie: file: Header at 1:1\n")?;
+    let file = b"lie 1\nvars x\ndeps u\neq u_";
+    let kind = (4, 6, BadKind::Syntax);
+    is_bad(&rt, alloc, file, kind, b"lie: file: Syntax at 4:6\n")?;
+    let file = b"lie 1\nvars x\ndeps u\neq u_x = w\nend\n";
+    let kind = (4, 10, BadKind::UnknownName);
+    is_bad(&rt, alloc, file, kind, b"lie: file: UnknownName at 4:10\n")?;
+    let mut long = Vec::new(alloc);
+    for _ in 0..65_537 {
+        long.push(b'\n')?;
+    }
+    let kind = (1, 1, BadKind::TooLong);
+    is_bad(&rt, alloc, &long, kind, b"lie: file: TooLong at 1:1\n")
+}
+
+// A file of a system without solved form.
+fn is_not_solved(
+    rt: &impl Abort,
+    alloc: Global,
+    file: &[u8],
+    kind: NotKind,
+    equation: u32,
+    text: &[u8],
+) -> Result<(), Fail> {
+    let want = (Status::Not(kind, equation), b"".as_slice(), text);
+    check(rt, alloc, &["determine", "f"], file, (&[], &[]), want)?;
+    check(rt, alloc, &["check", "f", "?"], file, (&[], &[]), want)
+}
+
+#[test]
+fn systems_without_solved_form_are_told(rt: HostRuntime) -> Result<(), Fail> {
+    let alloc = rt.alloc();
+    let file = b"lie 1\nvars x\ndeps u\neq u = x\nend\n";
+    let text = b"lie: not solved: NoDerivative in equation 1\n";
+    is_not_solved(&rt, alloc, file, NotKind::NoDerivative, 1, text)?;
+    let file = b"lie 1\nvars x\ndeps u\neq u_x = 0\neq u_x = u\nend\n";
+    let text = b"lie: not solved: LeadRepeated in equation 2\n";
+    is_not_solved(&rt, alloc, file, NotKind::LeadRepeated, 2, text)
+}
+
+#[test]
+fn fault_of_reading_is_told(rt: HostRuntime) -> Result<(), Fail> {
+    let want = (
         Status::ReadFault,
         b"".as_slice(),
         b"lie: read fault\n".as_slice(),
     );
-    check(&rt, alloc, &words, (&[1], &[]), read)?;
-    let write = (
-        Status::WriteFault,
-        b"".as_slice(),
-        b"lie: write fault\n".as_slice(),
-    );
-    check(&rt, alloc, &words, (&[], &[1]), write)?;
-    Ok(())
-}
-
-// One call on the file of `u_x = right`.
-fn check_right(
-    rt: &impl Abort,
-    alloc: Global,
-    right: &str,
-    want: (Status, &str, &[u8]),
-) -> Result<(), Fail> {
-    let bytes = format!(in alloc; "lie 1\nvars x\ndeps u\neq u_x = {right}\nend\n")?;
-    let name = Text::of(alloc, b"f")?.expect(rt, "ASCII");
-    let content = vec![in alloc; (name, Bytes::of(alloc, bytes.as_bytes())?)]?;
-    let words = vec![in alloc;
-        String::from_str(alloc, "determine")?,
-        String::from_str(alloc, "f")?,
-    ]?;
-    let mut files = MemoryFiles::new(content, Vec::new(alloc));
-    let mut out = MemorySink::new(Bytes::of(alloc, b"")?, Vec::new(alloc));
-    let mut err = MemorySink::new(Bytes::of(alloc, b"")?, Vec::new(alloc));
-    let status = run(alloc, &words, &mut files, &mut out, &mut err);
-    assert_eq!(rt; status, want.0);
-    let report = if want.1.is_empty() {
-        String::new(alloc)
-    } else {
-        let equation = want.1;
-        format!(in alloc; "{HEAD}{equation} = 0\nend\n")?
-    };
-    assert_eq!(rt; out.taken(), report.as_bytes());
-    assert_eq!(rt; err.taken(), want.2);
-    Ok(())
-}
-
-const HEAD: &str = "lie determining 1\nvars x\ndeps u\nfree f1(x,u)\nfree f2(x,u)\n\
-    general x = f1\ngeneral u = f2\nremaining 1\n";
-
-const SUM: &str =
-    "f2_x + x*f2_u + u*f2_u - x*f1_x - u*f1_x - x^2*f1_u - 2*x*u*f1_u - u^2*f1_u - f2 - f1";
-
-const BIG: &str = "f2_x + 10000000000000000000*u*f2_u - 10000000000000000000*u*f1_x - \
-    100000000000000000000000000000000000000*u^2*f1_u - 10000000000000000000*f2";
-
-#[test]
-fn right_sides_are_determined(rt: HostRuntime) -> Result<(), Fail> {
-    let alloc = rt.alloc();
-    let past: &[u8] = b"lie: past Coefficient at step 0\n";
-    let other: &[u8] = b"lie: not built\n";
-    for (right, status, equation, line) in [
-        ("0", Status::Done, "f2_x", b"".as_slice()),
-        ("3", Status::Done, "f2_x + 3*f2_u - 3*f1_x - 9*f1_u", b""),
-        ("x + u", Status::Done, SUM, b""),
-        ("10000000000000000000*u", Status::Done, BIG, b""),
-        (
-            "13043817825332782213*u",
-            Status::Past(PastKind::Coefficient),
-            "",
-            past,
-        ),
-        (
-            "170141183460469231731687303715884105727*u",
-            Status::Past(PastKind::Coefficient),
-            "",
-            past,
-        ),
-        (
-            "170141183460469231731687303715884105728*u",
-            Status::NotBuilt,
-            "",
-            other,
-        ),
-        ("u^33", Status::NotBuilt, "", other),
-        ("x +u", Status::NotBuilt, "", other),
-    ] {
-        check_right(&rt, alloc, right, (status, equation, line))?;
-    }
-    Ok(())
-}
-
-#[test]
-fn codes_are_told(rt: HostRuntime) {
-    assert_eq!(rt; code(&Status::Done), 0);
-    assert_eq!(rt; code(&Status::NotBuilt), 15);
+    check(&rt, rt.alloc(), &["determine", "f"], b"", (&[1], &[]), want)
 }

@@ -1,0 +1,17 @@
+-- A text has one field or one fault, as reading it shows.
+use Rattle.std.proofs.Common.{sym, subst}
+use Rattle.lie_gram.specs.Equations.{system_read}
+use Rattle.lie_solved.specs.SolvedForms.{solved_equations}
+use Rattle.lie_app.specs.Run.{IsAnswered}
+use Rattle.lie_app.proofs.Failures.{one_when_ok, field_failed}
+use Rattle.lie_app.proofs.work.check_of.Goals as goal
+
+pub returns-in-Ok-clause-due : goal.returns-in-Ok-clause-due
+returns-in-Ok-clause-due c = λ path bytes due h d.
+    c.line_of.ensures.due path bytes c.args.text.now due h (record { spelled = c.in-Ok.ensures.found.0; short = c.in-Ok.ensures.found.1 })
+    (one_when_ok (system_read c.args.solved.now.system) c.args.text.now c.in-Ok.field c.in-Ok.ensures.only c.in-Ok.ensures.stops) d
+
+pub returns-in-Err-clause-due : goal.returns-in-Err-clause-due
+returns-in-Err-clause-due c = λ path bytes due h d. subst (IsAnswered due) (sym c.not_read.ensures)
+    (field_failed path bytes c.args.text.now (system_read c.args.solved.now.system) (solved_equations c.args.solved.now.system.space c.args.solved.now.rules.items) c.in-Err.fail due
+    c.in-Err.ensures.only c.in-Err.ensures.stops c.in-Err.ensures.fault h d)
