@@ -39,3 +39,6 @@ mod FieldSumsBack
 mod FieldTexts
 mod FieldLaws
 mod CommonDenominators
+mod PrintedVariables
+mod PrintedTexts
+mod PrintedLists

@@ -25,3 +25,5 @@ pub mod FieldGrammar
 pub mod FieldFaults
 pub mod FieldReading
 pub mod FieldAnswers
+pub mod Printing
+pub mod PrintedTerms
