@@ -42,3 +42,7 @@ mod CommonDenominators
 mod PrintedVariables
 mod PrintedTexts
 mod PrintedLists
+mod RightSideSteps
+mod FileCoordinates
+mod LeadSides
+mod RightSideLists

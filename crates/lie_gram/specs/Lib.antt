@@ -27,3 +27,5 @@ pub mod FieldReading
 pub mod FieldAnswers
 pub mod Printing
 pub mod PrintedTerms
+pub mod CanonicalText
+pub mod RightSides

@@ -1,6 +1,7 @@
 //! Equation files and field texts: their grammar, read with the first fault and its place, and printed.
 #![tactic(auto)]
 
+mod canonical_text;
 mod coordinate;
 mod equations;
 mod fault;
@@ -22,6 +23,7 @@ mod power;
 pub mod printed_term;
 pub mod printing;
 mod reading;
+mod right_side;
 mod runs;
 mod stop;
 mod sum;
@@ -29,6 +31,7 @@ mod system;
 mod term;
 mod terms;
 
+pub use canonical_text::canonical;
 pub use fault::{BadFile, BadKind, ReadFail};
 pub use field::read_field;
 pub use lie_jet::Field;

@@ -80,8 +80,8 @@ fn push_subscript(text: &mut Vec<u8>, names: &[u8], counts: &[u8]) -> Result<(),
     Ok(())
 }
 
-// Appends a jet.
-fn push_jet(text: &mut Vec<u8>, space: Space, names: &[u8], jet: &Jet) -> Result<(), AllocError>
+/// Appends a jet.
+pub fn push_jet(text: &mut Vec<u8>, space: Space, names: &[u8], jet: &Jet) -> Result<(), AllocError>
     requires { IsJet space 12 jet.now }
     ensures { OnOk result (text.new.items ≡ text.old.items ++ coordinate_text space names.now (coordinate_of space jet.now)) }
 {
