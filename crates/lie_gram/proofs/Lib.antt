@@ -46,3 +46,4 @@ mod RightSideSteps
 mod FileCoordinates
 mod LeadSides
 mod RightSideLists
+mod PrintedCoordinates

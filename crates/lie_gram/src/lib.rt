@@ -39,6 +39,8 @@ pub use reading::read_system;
 pub use system::{Equation, System};
 
 #[cfg(test)]
+mod canonical_tests;
+#[cfg(test)]
 mod equation_tests;
 #[cfg(test)]
 mod field_limit_tests;
