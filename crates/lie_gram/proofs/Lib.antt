@@ -47,3 +47,4 @@ mod FileCoordinates
 mod LeadSides
 mod RightSideLists
 mod PrintedCoordinates
+mod PrintedPowers
