@@ -48,3 +48,5 @@ mod LeadSides
 mod RightSideLists
 mod PrintedCoordinates
 mod PrintedPowers
+mod PrintedSums
+mod PrintedLines

@@ -1,5 +1,5 @@
 -- The text of a number is a number, and that of a coordinate is the coordinate.
-use Rattle.std.specs.Prelude.{ℕ, zero, suc, ◌+◌, ◌-◌, ◌^◌, ◌==◌, ◌≡◌, ◌≤◌, ◌<◌, nat_lt, Bool, true, false, ◌||◌, List, [], ◌∷◌, ◌++◌, length, take, drop, replicate, get_or, decimal, Option, Some, None, IsSome, if◌then◌else◌, refl}
+use Rattle.std.specs.Prelude.{ℕ, zero, suc, ◌+◌, ◌-◌, ◌^◌, ◌==◌, ◌≡◌, ◌≤◌, ◌<◌, nat_lt, Bool, true, false, ◌||◌, List, [], ◌∷◌, ◌++◌, length, take, drop, replicate, get_or, decimal, Some, IsSome, if◌then◌else◌, refl}
 use Rattle.std.specs.List.{list_any, AllByRecursion}
 use Rattle.std.proofs.Common.{sym, ap, ap₂, subst, ◌∙◌, arith, append_assoc, inl, inr}
 use Rattle.std.proofs.Math.Seq.{set-append_seam}
@@ -7,12 +7,12 @@ use Rattle.std.proofs.lemmas.Bool.Decides.{nat_tests}
 use Rattle.std.proofs.lemmas.Fmt.{decimal_is_IsNumeral_wide}
 use Rattle.std.proofs.lemmas.List.{append-nil, length-append}
 use Rattle.lie_math.specs.Counts.{order}
-use Rattle.lie_geometry.specs.Coordinates.{Space, Coordinate, independent, jet, IsCoordinate, order_of}
+use Rattle.lie_geometry.specs.Coordinates.{Space, Coordinate, independent, jet}
 use Rattle.lie_gram.specs.declared.runs.Class.TheVariants.{Letter, Digit}
 use Rattle.lie_gram.specs.Names.{place_from, place_of, counts_from, counts_of, one_more, variable_at}
-use Rattle.lie_gram.specs.Printing.{name_at, repeated, letters_from, subscript, coordinate_text}
+use Rattle.lie_gram.specs.Printing.{name_at, repeated, letters_from, coordinate_text}
 use Rattle.lie_gram.specs.Runs.{is_in}
-use Rattle.lie_gram.specs.TokenGrammar.{AreIn, BeginsOutside, IsNot, IsNumber, IsVariableName, IsDerivativeName, IsCoordinateAt}
+use Rattle.lie_gram.specs.TokenGrammar.{BeginsOutside, IsNot, IsNumber, IsCoordinateAt}
 use Rattle.lie_gram.proofs.Blanks.{no_blanks}
 use Rattle.lie_gram.proofs.FileCoordinates.{IsGood}
 

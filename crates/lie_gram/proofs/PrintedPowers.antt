@@ -1,14 +1,14 @@
 -- The text of a power is the power, and that of a term without its sign is the term.
-use Rattle.std.specs.Prelude.{ℕ, ◌+◌, ◌^◌, ◌==◌, ◌≡◌, ◌≤◌, ◌<◌, Bool, true, false, cond, ltb, List, [], ◌∷◌, ◌++◌, length, map, decimal, ℤ, unsigned_abs, None, if◌then◌else◌, refl}
+use Rattle.std.specs.Prelude.{ℕ, ◌^◌, ◌==◌, ◌≡◌, ◌≤◌, ◌<◌, Bool, true, false, cond, ltb, List, [], ◌∷◌, ◌++◌, length, map, decimal, ℤ, unsigned_abs, None, if◌then◌else◌, refl}
 use Rattle.std.specs.List.{flat_map, AllByRecursion as Every}
-use Rattle.std.proofs.Common.{sym, ap, ap₂, subst, ◌∙◌, arith, append_assoc, inl, inr}
+use Rattle.std.proofs.Common.{sym, ap, subst, ◌∙◌, arith, append_assoc, inl, inr}
 use Rattle.std.proofs.lemmas.Bool.Decides.{nat_tests}
-use Rattle.std.proofs.lemmas.List.{append-nil, length-append}
+use Rattle.std.proofs.lemmas.List.{append-nil}
 use Rattle.lie_math.specs.FiniteSum as finite
 use Rattle.lie_math.specs.FiniteSumLaws.{plus_idl, plus_assoc, plus_comm, of_list}
 use Rattle.lie_math.specs.Monomial.{Monomial, powers, unit, power_of, monomial_of, ◌·◌}
 use Rattle.lie_math.proofs.CanonicalLists.{of-cons}
-use Rattle.lie_geometry.specs.Coordinates.{Space, Coordinate, IsCoordinate, order_of, number, coordinate, coordinates_up_to}
+use Rattle.lie_geometry.specs.Coordinates.{Space, coordinate, coordinates_up_to}
 use Rattle.lie_geometry.proofs.Numbers as numbers
 use Rattle.lie_geometry.proofs.NumberOrder.{order_below}
 use Rattle.lie_jet.specs.Jets.{IsSmall}
@@ -17,9 +17,9 @@ use Rattle.lie_gram.specs.Exponents.{HasSmallExponents}
 use Rattle.lie_gram.specs.Meaning.{product}
 use Rattle.lie_gram.specs.Printing.{coordinate_text, variable_text, power_text, number_factor, term_text}
 use Rattle.lie_gram.specs.Printing.{behind as joined}
-use Rattle.lie_gram.specs.Runs.{is_in, after_blanks}
+use Rattle.lie_gram.specs.Runs.{after_blanks}
 use Rattle.lie_gram.specs.TokenGrammar.{BeginsOutside, IsNot, IsSign, IsCoordinateAt, IsExponentAt, IsPower}
-use Rattle.lie_gram.specs.SumGrammar.{AreFactors, IsFirstFactor, IsTerm}
+use Rattle.lie_gram.specs.SumGrammar.{AreFactors, IsTerm}
 use Rattle.lie_gram.proofs.Blanks.{no_blanks}
 use Rattle.lie_gram.proofs.FileCoordinates.{IsGood}
 use Rattle.lie_gram.proofs.PrintedCoordinates.{AreDistinct, decimal_number, coordinate_is}
