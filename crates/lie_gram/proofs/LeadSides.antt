@@ -47,7 +47,7 @@ small_single w v = rw (exponent-single w v) (go (eq_by_cmp powers.order v w))
     go false = omega arith
 
 -- a coordinate alone is a sum
-alone_is_sum : (S : Space) (names text : List ℕ) (c : Coordinate) (rest : List ℕ) → IsCoordinateAt S names text c rest → IsNot 94 (after_blanks rest) → IsSum S names false text ((single (number S c), pos 1) ∷ []) rest
+pub alone_is_sum : (S : Space) (names text : List ℕ) (c : Coordinate) (rest : List ℕ) → IsCoordinateAt S names text c rest → IsNot 94 (after_blanks rest) → IsSum S names false text ((single (number S c), pos 1) ∷ []) rest
 alone_is_sum S names text c rest h no_hat =
     let f = coordinate_front S names text c rest h in
     record {

@@ -50,3 +50,4 @@ mod PrintedCoordinates
 mod PrintedPowers
 mod PrintedSums
 mod PrintedLines
+mod PrintedEquations

@@ -26,7 +26,7 @@ use Rattle.lie_gram.proofs.PrintedCoordinates.{AreDistinct}
 use Rattle.lie_gram.proofs.PrintedPowers.{EndsPower, IsLowPower, term_is}
 
 -- ---- a blank in front
-blank_front : (text rest : List ℕ) → IsBehindBlanks text rest → IsBehindBlanks (32 ∷ text) rest
+pub blank_front : (text rest : List ℕ) → IsBehindBlanks text rest → IsBehindBlanks (32 ∷ text) rest
 blank_front text rest h = record { blanks = 32 ∷ h.blanks; are = (refl, h.are); spelled = ap (λ l. 32 ∷ l) h.spelled }
 
 blank_first : (S : Space) (names text : List ℕ) (n : ℕ) (ps : List (ℕ × ℕ)) (rest : List ℕ) → IsFirstFactor S names text n ps rest → IsFirstFactor S names (32 ∷ text) n ps rest

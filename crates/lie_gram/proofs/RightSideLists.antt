@@ -21,7 +21,7 @@ use Rattle.lie_gram.specs.RightSides.{negated, plain_terms, turned_terms, Leaves
 use Rattle.lie_gram.specs.Equations.{equation_read}
 use Rattle.lie_gram.specs.declared.system.Equation.{Equation}
 
-times_negated : (es : List (Monomial × ℤ)) → times_list unit (negsuc 0) es ≡ negated es
+pub times_negated : (es : List (Monomial × ℤ)) → times_list unit (negsuc 0) es ≡ negated es
 times_negated [] = refl
 times_negated (e ∷ es) = ap₂ (λ (t : Monomial × ℤ) (l : List (Monomial × ℤ)). t ∷ l) (λ i. (plus_idl powers e.0 i, minus e.1 i)) (times_negated es)
   where
