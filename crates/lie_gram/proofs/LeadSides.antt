@@ -95,7 +95,7 @@ lead_left S names text c left rest front h sum equals small =
 triangle : (a b : ℤ) → unsigned_abs (a +ℤ b) ≤ unsigned_abs a + unsigned_abs b
 triangle a b = omega (arith, ints)
 
-value_bound : (m : Monomial) (ts : List (Monomial × ℤ)) → unsigned_abs (value_at monomial_cmp coefficients m ts) ≤ size_of m ts
+pub value_bound : (m : Monomial) (ts : List (Monomial × ℤ)) → unsigned_abs (value_at monomial_cmp coefficients m ts) ≤ size_of m ts
 value_bound m [] = omega arith
 value_bound m (t ∷ ts) = go (eq_by_cmp monomial_cmp m t.0) (value_bound m ts)
   where

@@ -51,3 +51,4 @@ mod PrintedPowers
 mod PrintedSums
 mod PrintedLines
 mod PrintedEquations
+mod PrintedSizes

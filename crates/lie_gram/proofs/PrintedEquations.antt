@@ -1,26 +1,24 @@
 -- The text of the two sides of an equation is the equation.
-use Rattle.std.specs.Prelude.{ℕ, ◌+◌, ◌^◌, ◌≡◌, ◌≤◌, ◌<◌, ◌⊎◌, Bool, true, false, List, [], ◌∷◌, ◌++◌, length, codes, ℤ, pos, negsuc, neg_ℤ, Option, Some, None, refl}
+use Rattle.std.specs.Prelude.{ℕ, ◌^◌, ◌≡◌, ◌≤◌, ◌<◌, ◌⊎◌, Bool, true, false, List, [], ◌∷◌, ◌++◌, length, codes, ℤ, pos, negsuc, Option, Some, None, refl}
 use Rattle.std.specs.List.{AllByRecursion as Every}
-use Rattle.std.proofs.Common.{sym, ap, ap₂, subst, ◌∙◌, arith, append_assoc, inl, inr}
+use Rattle.std.proofs.Common.{sym, ap, ap₂, subst, ◌∙◌, append_assoc, inl, inr}
 use Rattle.std.proofs.lemmas.List.{append-nil}
 use Rattle.lie_math.specs.FiniteSum as finite
 use Rattle.lie_math.specs.FiniteSumLaws.{of_list, same_list, plus_comm, plus_idl}
 use Rattle.lie_math.specs.Monomial.{Monomial, unit, single}
-use Rattle.lie_math.specs.Polynomial.{WholePolynomial, terms, term, polynomial_of, negᴾ, 0ᴾ, ◌+ᴾ◌, ◌*ᴾ◌}
+use Rattle.lie_math.specs.Polynomial.{WholePolynomial, terms, term, polynomial_of, negᴾ, 0ᴾ, ◌+ᴾ◌}
 use Rattle.lie_math.specs.PolynomialRing.{polynomial_ring}
 use Rattle.lie_math.proofs.CanonicalLists.{of-append, of-cons}
 use Rattle.lie_math.proofs.Limits as limits
 use Rattle.lie_math.proofs.RingSolver.{v, ◌⊕◌, ⊖, solve, listed}
-use Rattle.lie_math.proofs.TermWise.{times_list, polynomial_of-times}
+use Rattle.lie_math.proofs.TermWise.{polynomial_of-times}
 use Rattle.lie_geometry.specs.Coordinates.{Space, Coordinate, order_of, number}
 use Rattle.lie_jet.specs.Jets.{IsSmall}
 use Rattle.lie_gram.specs.CanonicalText.{polynomial_text, right_side, sides_text}
-use Rattle.lie_gram.specs.Meaning.{EquationRead, size_of}
+use Rattle.lie_gram.specs.Meaning.{size_of}
 use Rattle.lie_gram.specs.Printing.{coordinate_text}
-use Rattle.lie_gram.specs.RightSides.{negated}
 use Rattle.lie_gram.specs.TokenGrammar.{IsSign, IsCoordinateAt}
-use Rattle.lie_gram.specs.SumGrammar.{IsSigned, IsFirstSign, IsSum, IsLeadOf, HasLead, IsEquation}
-use Rattle.lie_gram.proofs.Blanks.{no_blanks}
+use Rattle.lie_gram.specs.SumGrammar.{IsSigned, IsFirstSign, IsSum, HasLead, IsEquation}
 use Rattle.lie_gram.proofs.FileCoordinates.{IsGood}
 use Rattle.lie_gram.proofs.LeadSides.{alone_is_sum}
 use Rattle.lie_gram.proofs.PrintedCoordinates.{AreDistinct, coordinate_is}
