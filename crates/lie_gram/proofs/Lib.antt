@@ -52,3 +52,4 @@ mod PrintedSums
 mod PrintedLines
 mod PrintedEquations
 mod PrintedSizes
+mod PrintedFiles
