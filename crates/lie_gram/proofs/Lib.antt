@@ -53,3 +53,4 @@ mod PrintedLines
 mod PrintedEquations
 mod PrintedSizes
 mod PrintedFiles
+mod PrintedMonomials
