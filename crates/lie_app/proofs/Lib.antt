@@ -1,6 +1,5 @@
 -- The lemmas that the answers cite.
 pub mod Texts
-pub mod Variables
 pub mod Lists
 pub mod Arguments
 pub mod SolvedFiles

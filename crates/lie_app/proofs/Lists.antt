@@ -1,21 +1,16 @@
 -- Lists that grow element by element, as loops make them.
-use Rattle.std.specs.Prelude.{ℕ, ℤ, ◌≡◌, ◌+◌, ◌∷◌, ◌++◌, [], List, Bool, true, false, cond, map, filter, Some, None}
+use Rattle.std.specs.Prelude.{ℕ, ℤ, ◌≡◌, ◌+◌, ◌∷◌, ◌++◌, [], List, Bool, true, false, cond, map, filter, Some}
 use Rattle.std.proofs.Common.{refl, sym, ap, ap₂, ◌∙◌, arith}
 use Rattle.std.proofs.lemmas.List.{map-append, append-nil}
 use Rattle.std.proofs.lemmas.List.FromFn.{filter_of_map_range_with_len_more}
 use Rattle.std.specs.List.{range_with_len}
 use Rattle.lie_math.specs.Monomial.{Monomial}
-use Rattle.lie_ring.specs.Entries.{entries}
 use Rattle.lie_jet.specs.declared.derivative.Der.{Der}
 use Rattle.lie_jet.specs.Derivatives.{derivative_of}
 use Rattle.lie_lin.specs.Forms.{triples_of}
-use Rattle.lie_app.specs.declared.term.Term.{Term}
-use Rattle.lie_app.specs.Printing.{PrintedTerm}
-use Rattle.lie_app.specs.Terms.{printed}
-
-entries-push : (es : List (Monomial × ℤ)) (m : Monomial) (z : ℤ) → entries (λ z. z) (es ++ (m, z) ∷ []) ≡ entries (λ z. z) es ++ (m, z) ∷ []
-entries-push [] m z = refl
-entries-push (e ∷ es) m z = ap (λ l. (e.0, e.1) ∷ l) (entries-push es m z)
+use Rattle.lie_gram.specs.declared.printed_term.Term.{Term}
+use Rattle.lie_gram.specs.Printing.{PrintedTerm}
+use Rattle.lie_gram.specs.PrintedTerms.{printed}
 
 triples_of-push : (ts : List (Der × Monomial × ℤ)) (d : Der) (m : Monomial) (z : ℤ) → triples_of (ts ++ (d, m, z) ∷ []) ≡ triples_of ts ++ (derivative_of d, m, z) ∷ []
 triples_of-push [] d m z = refl
@@ -24,13 +19,6 @@ triples_of-push (t ∷ ts) d m z = ap (λ l. (derivative_of t.0, t.1, t.2) ∷ l
 terms-push : {B : Type 0} (g : B → PrintedTerm) (old new : List Term) (t : Term) (ys : List B) (y : B) → printed t ≡ g y → new ≡ old ++ t ∷ [] → map printed old ≡ map g ys → map printed new ≡ map g (ys ++ y ∷ [])
 terms-push g old new t ys y is pushed so_far =
     ap (map printed) pushed ∙ map-append printed old (t ∷ []) ∙ ap₂ (λ (l : List PrintedTerm) (s : PrintedTerm). l ++ s ∷ []) so_far is ∙ sym (map-append g ys (y ∷ []))
-
-abbrev plain : Monomial × ℤ → PrintedTerm
-plain t = (t.1, t.0, None)
-
-pub polynomial_terms-push : (old new : List Term) (t : Term) (es : List (Monomial × ℤ)) (m : Monomial) (z : ℤ) → printed t ≡ (z, m, None) → new ≡ old ++ t ∷ []
-    → map printed old ≡ map (λ t. (t.1, t.0, None)) (entries (λ z. z) es) → map printed new ≡ map (λ t. (t.1, t.0, None)) (entries (λ z. z) (es ++ (m, z) ∷ []))
-polynomial_terms-push old new t es m z is pushed so_far = terms-push plain old new t (entries (λ z. z) es) (m, z) is pushed so_far ∙ sym (ap (map plain) (entries-push es m z))
 
 pub form_terms-push : (old new : List Term) (t : Term) (ts : List (Der × Monomial × ℤ)) (d : Der) (m : Monomial) (z : ℤ) → printed t ≡ (z, m, Some (derivative_of d)) → new ≡ old ++ t ∷ []
     → map printed old ≡ map (λ t. (t.2, t.1, Some t.0)) (triples_of ts) → map printed new ≡ map (λ t. (t.2, t.1, Some t.0)) (triples_of (ts ++ (d, m, z) ∷ []))

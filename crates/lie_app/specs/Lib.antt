@@ -1,6 +1,5 @@
 -- The definitions that the contracts cite, from the words of a call to what it leaves.
 pub mod Words
-pub mod Printing
 pub mod Terms
 pub mod Report
 pub mod Status

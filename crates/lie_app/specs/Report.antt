@@ -6,8 +6,9 @@ use Rattle.lie_math.specs.LinearSystem.{Unknown, LinearSystem}
 use Rattle.lie_geometry.specs.Coordinates.{Space}
 use Rattle.lie_invar.specs.declared.verdict.Verdict.{Verdict}
 use Rattle.lie_invar.specs.declared.verdict.Verdict.TheVariants.{Yes, No}
-use Rattle.lie_app.specs.Printing.{name_at, sum_text}
-use Rattle.lie_app.specs.Terms.{polynomial_terms, form_terms}
+use Rattle.lie_gram.specs.PrintedTerms.{polynomial_terms}
+use Rattle.lie_gram.specs.Printing.{name_at, sum_text}
+use Rattle.lie_app.specs.Terms.{form_terms}
 
 -- ---- reports
 -- a keyword and names, with a blank before each name

@@ -2,8 +2,6 @@
 #![tactic(auto)]
 
 mod line;
-mod names;
-mod printing;
 mod report;
 mod status;
 mod term;

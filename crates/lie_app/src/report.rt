@@ -2,13 +2,14 @@
 ghost use Rattle.std.specs.Prelude.{◌≡◌, ◌<◌, ◌++◌, ◌+◌, ◌∷◌, [], OnOk, IfOk, length, map};
 ghost use Rattle.std.specs.List.{flat_map};
 ghost use Rattle.lie_lin.specs.Systems.{has_bit, unknown_of};
-ghost use Rattle.lie_app.specs.Printing.{name_at, sum_text};
+ghost use Rattle.lie_gram.specs.Printing.{name_at, sum_text};
 ghost use Rattle.lie_app.specs.Terms.{form_terms};
 ghost use Rattle.lie_app.specs.Report.{names_line, listed, free_line, component_line, general_lines, equation_line, head, remaining, report_of, report, verdict_line};
 
-use crate::names::{push_name, push_number, push_text};
-use crate::printing::push_sum;
-use crate::term::{form_terms, polynomial_terms};
+use crate::term::form_terms;
+use lie_gram::name_texts::{push_name, push_number, push_text};
+use lie_gram::printed_term::polynomial_terms;
+use lie_gram::printing::push_sum;
 use lie_invar::Verdict;
 use lie_jet::Space;
 use lie_lin::{LinEq, LinSystem, Unknown};

@@ -104,11 +104,13 @@ module _ (S : Space) (small : IsSmall S) (ind dep : List ℕ) (p : S.p ≡ lengt
   pub factors_are : (ps : List (ℕ × ℕ)) (rest : List ℕ) → Every (IsLowPower S) ps → EndsPower rest → AreFactors S (ind ++ dep) (starred S (ind ++ dep) ps ++ rest) ps rest
   factors_are [] rest h ends = refl
   factors_are (t ∷ ts) rest h ends =
-      let more : List ℕ = starred S (ind ++ dep) ts in
-      (power_text S (ind ++ dep) t ++ (more ++ rest), more ++ rest,
+      let more : List ℕ = starred S (ind ++ dep) ts in (
+        power_text S (ind ++ dep) t ++ (more ++ rest),
+        more ++ rest,
         subst (λ l. IsSign 42 l (power_text S (ind ++ dep) t ++ (more ++ rest))) (sym (append_assoc (42 ∷ power_text S (ind ++ dep) t) more rest)) (no_blanks (42 ∷ (power_text S (ind ++ dep) t ++ (more ++ rest)))),
         power_is t (more ++ rest) h.0 (starred_ends S (ind ++ dep) ts rest ends),
-        factors_are ts rest h.1 ends)
+        factors_are ts rest h.1 ends,
+      )
 
   -- a term without its sign, by the powers of its monomial
   term_of : (n : ℕ) (m : Monomial) (ts : List (ℕ × ℕ)) (rest : List ℕ) → m ≡ product unit ts → Every (IsLowPower S) ts → HasSmallExponents m → n < 2 ^ 127 → EndsPower rest

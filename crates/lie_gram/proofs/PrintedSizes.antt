@@ -116,7 +116,7 @@ solved_small S names text e c h lead m =
     let r : ℤ = value_at monomial_cmp coefficients m h.right in
     let left = lead_left S names text c h.left h.behind_left h.front lead h.left_is h.equals (small_front h.left h.right h.small) in
     let at : coefficient e.diff m ≡ cond d (pos 1) (pos 0) +ℤ r =
-        ap (λ (p : WholePolynomial). coefficient p m) (h.means ∙ ap (λ l. polynomial_of (l ++ h.right)) left) ∙ value-of terms ((x, pos 1) ∷ h.right) m in
+    ap (λ (p : WholePolynomial). coefficient p m) (h.means ∙ ap (λ l. polynomial_of (l ++ h.right)) left) ∙ value-of terms ((x, pos 1) ∷ h.right) m in
     let low : cond d 1 0 + size_of m h.right < 2 ^ 127 = subst (λ l. size_of m (l ++ h.right) < 2 ^ 127) left (h.small m) in
     let size = read_size true (right_side S c e.diff) m ∙ ap unsigned_abs (right_value S c e.diff m ∙ ap (λ z. cond d (pos 1) (pos 0) +ℤ neg_ℤ z) at) in
     subst (λ n. cond d 1 0 + n < 2 ^ 127) (sym size) (sizes_of d r (size_of m h.right) (value_bound m h.right) low)

@@ -35,13 +35,20 @@ blank_first S names text n ps rest (inl h) =
 blank_first S names text n ps rest (inr h) =
     let w = h.1.2 in
     let c = w.base in
-    inr (h.0, (h.1.0, h.1.1, record {
-      coordinate = w.coordinate;
-      behind = w.behind;
-      base = record { word = c.word; front = blank_front text (c.word ++ w.behind) c.front; ended = c.ended; name = c.name };
-      exponent = w.exponent;
-      means = w.means;
-    }))
+    inr (
+      h.0,
+      (
+        h.1.0,
+        h.1.1,
+        record {
+          coordinate = w.coordinate;
+          behind = w.behind;
+          base = record { word = c.word; front = blank_front text (c.word ++ w.behind) c.front; ended = c.ended; name = c.name };
+          exponent = w.exponent;
+          means = w.means;
+        },
+      ),
+    )
 
 pub blank_term : (S : Space) (names text : List ℕ) (n : ℕ) (m : Monomial) (rest : List ℕ) → IsTerm S names text n m rest → IsTerm S names (32 ∷ text) n m rest
 blank_term S names text n m rest h =

@@ -182,7 +182,8 @@ fn push_header(text: &mut Vec<u8>, space: Space, names: &[u8]) -> Result<(), NoM
     Ok(())
 }
 
-/// The canonical text of a system: five kinds of line with single blanks and no comment. Reading it gives the system again.
+/// The canonical text of a system: five kinds of line with single blanks and no comment. An equation with a lead is the lead and what
+/// it equals, another is its polynomial and `= 0`.
 #[tactic(auto, unfolding(crate::specs::CanonicalText::canonical_text))]
 pub fn canonical(alloc: Global, system: &System) -> Result<Text, NoMemory>
     // A system is the one of some file.

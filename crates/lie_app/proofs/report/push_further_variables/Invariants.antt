@@ -1,6 +1,6 @@
 use Rattle.std.proofs.Common.{◌≡◌, ◌++◌, ◌∷◌, map, take}
 use Rattle.std.specs.List.{flat_map}
-use Rattle.lie_app.specs.Printing.{name_at}
+use Rattle.lie_gram.specs.Printing.{name_at}
 use Rattle.lie_app.proofs.report.push_further_variables.Given as goal
 
 abbrev pub invariant-loop-variable : goal.invariant-loop-variable

@@ -1,6 +1,6 @@
 use Rattle.std.proofs.Common.{◌≡◌, map, Some}
 use Rattle.lie_lin.specs.Forms.{triples_of}
-use Rattle.lie_app.specs.Terms.{printed}
+use Rattle.lie_gram.specs.PrintedTerms.{printed}
 use Rattle.lie_app.proofs.term.form_terms.Given as goal
 
 abbrev pub invariant-loop-derivative : goal.invariant-loop-derivative
