@@ -54,3 +54,8 @@ mod PrintedEquations
 mod PrintedSizes
 mod PrintedFiles
 mod PrintedMonomials
+mod FileTerms
+mod CanonicalTerms
+mod CanonicalLeads
+mod PrintedBytes
+mod CanonicalFiles

@@ -194,7 +194,7 @@ module _ (ind dep : List ℕ) (distinct : AreDistinct [] ind) where
       four : (n : ℕ) → n ≤ 4 → 4 ≡ n + (4 - n)
       four n le = omega arith
 
-drop_front : (xs ys : List ℕ) → drop (length xs) (xs ++ ys) ≡ ys
+pub drop_front : (xs ys : List ℕ) → drop (length xs) (xs ++ ys) ≡ ys
 drop_front [] ys = refl
 drop_front (x ∷ xs) ys = drop_front xs ys
 

@@ -71,7 +71,7 @@ solved_means S c diff =
     ∙ ap₂ ◌+ᴾ◌ (sym (limits.term_is (single (number S c)) (pos 1))) (read_negated R.list ∙ ap negᴾ (of_list terms R))
     ∙ twice_less x diff)
 
-same_terms : (es : List (Monomial × ℤ)) → turned_terms false es ≡ es
+pub same_terms : (es : List (Monomial × ℤ)) → turned_terms false es ≡ es
 same_terms [] = refl
 same_terms (e ∷ es) = ap (λ (l : List (Monomial × ℤ)). e ∷ l) (same_terms es)
 
@@ -139,19 +139,24 @@ module _ (S : Space) (small : IsSmall S) (ind dep : List ℕ) (p : S.p ≡ lengt
         };
       })
 
+  -- the left side of a polynomial that is 0
+  pub unsolved_left : (diff : WholePolynomial) → Every (IsLowTerm S) diff.list → IsSum S (ind ++ dep) false (32 ∷ sides_text S (ind ++ dep) None diff) (read_terms false diff.list) (32 ∷ 61 ∷ 32 ∷ 48 ∷ [])
+  unsolved_left diff low =
+      let rest : List ℕ = 32 ∷ 61 ∷ 32 ∷ 48 ∷ [] in
+      blank_sum S (ind ++ dep) false (polynomial_text S (ind ++ dep) diff ++ rest) (read_terms false diff.list) rest
+      (sum_is S small ind dep p q few distinct others all false diff.list rest low (equals_behind (48 ∷ [])))
+
   -- a polynomial that is 0
   pub unsolved_is : (lead : Option Coordinate) (diff : WholePolynomial) → Every (IsLowTerm S) diff.list → IsSmallSum (read_terms false diff.list ++ (unit, pos 0) ∷ [])
       → HasLead S (ind ++ dep) (32 ∷ sides_text S (ind ++ dep) None diff) lead → IsEquation S (ind ++ dep) (32 ∷ sides_text S (ind ++ dep) None diff) (record { lead = lead; diff = diff })
   unsolved_is lead diff low sizes has =
-      let rest : List ℕ = 32 ∷ 61 ∷ 32 ∷ 48 ∷ [] in
-      let text : List ℕ = polynomial_text S (ind ++ dep) diff ++ rest in
       record {
         left = read_terms false diff.list;
-        behind_left = rest;
+        behind_left = 32 ∷ 61 ∷ 32 ∷ 48 ∷ [];
         front = 32 ∷ 48 ∷ [];
         right = (unit, pos 0) ∷ [];
         behind = [];
-        left_is = blank_sum S (ind ++ dep) false text (read_terms false diff.list) rest (sum_is S small ind dep p q few distinct others all false diff.list rest low (equals_behind (48 ∷ [])));
+        left_is = unsolved_left diff low;
         equals = equals_sign (32 ∷ 48 ∷ []);
         right_is = blank_sum S (ind ++ dep) true (48 ∷ []) ((unit, pos 0) ∷ []) [] (sum_is S small ind dep p q few distinct others all true [] [] tt nothing_behind);
         ends = tt;

@@ -75,7 +75,7 @@ module _ (S : Space) (small : IsSmall S) (ind dep : List ℕ) (p : S.p ≡ lengt
       let test : ltb w (coordinates_up_to S 12) ≡ true = grind (arith, nat_tests, h) in
       ap (λ b. cond b (coordinate_text S (ind ++ dep) (coordinate S w)) []) test
 
-  variable_at_text : (w : ℕ) (rest : List ℕ) → w < coordinates_up_to S 6 → BeginsOutside Letter rest → IsNot 95 rest → IsCoordinateAt S (ind ++ dep) (variable_text S (ind ++ dep) w ++ rest) (coordinate S w) rest
+  pub variable_at_text : (w : ℕ) (rest : List ℕ) → w < coordinates_up_to S 6 → BeginsOutside Letter rest → IsNot 95 rest → IsCoordinateAt S (ind ++ dep) (variable_text S (ind ++ dep) w ++ rest) (coordinate S w) rest
   variable_at_text w rest low ended no_line =
       subst (λ t. IsCoordinateAt S (ind ++ dep) (t ++ rest) (coordinate S w) rest) (sym (variable_is_text w low))
       (coordinate_is S ind dep p q few distinct others all (coordinate S w) rest (variable_good w low) ended no_line)

@@ -98,7 +98,7 @@ value_negated m (e ∷ es) = go (eq_by_cmp monomial_cmp m e.0) (value_negated m 
         sum : (b : ℤ) → pos 0 +ℤ neg_ℤ b ≡ neg_ℤ (pos 0 +ℤ b)
         sum b = omega (arith, ints)
 
-right_value : (S : Space) (c : Coordinate) (diff : WholePolynomial) (m : Monomial)
+pub right_value : (S : Space) (c : Coordinate) (diff : WholePolynomial) (m : Monomial)
     → coefficient (right_side S c diff) m ≡ cond (eq_by_cmp monomial_cmp m (single (number S c))) (pos 1) (pos 0) +ℤ neg_ℤ (coefficient diff m)
 right_value S c diff m =
     value-plus terms (term (single (number S c)) (pos 1)) (negᴾ diff) m

@@ -29,3 +29,4 @@ pub mod Printing
 pub mod PrintedTerms
 pub mod CanonicalText
 pub mod RightSides
+pub mod LeadsAlone

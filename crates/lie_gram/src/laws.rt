@@ -11,6 +11,8 @@ ghost use Rattle.lie_gram.specs.FieldFaults.{IsFieldFault};
 ghost use Rattle.lie_gram.specs.declared.fault.ReadFail.{ReadFail as AFault};
 ghost use Rattle.lie_gram.specs.Meaning.{SystemRead};
 ghost use Rattle.lie_gram.specs.FileGrammar.{IsFile};
+ghost use Rattle.lie_gram.specs.CanonicalText.{canonical_text};
+ghost use Rattle.lie_gram.specs.LeadsAlone.{with_leads};
 ghost use Rattle.lie_gram.specs.FileFaults.{IsFault};
 
 /// A text of any length is the file of one system at most.
@@ -51,4 +53,9 @@ pub fn texts_have_a_field_or_a_fault()
 /// The common denominator of terms is the least: each of their denominators divides it, and it divides each number that they all divide.
 pub fn common_denominators_are_least()
     ensures { (terms : List ATerm) → Every (λ t. 1 ≤ t.over) terms → Every (λ t. t.over ∣ common_denominator terms) terms × ((k : ℕ) → Every (λ t. t.over ∣ k) terms → common_denominator terms ∣ k) }
+{}
+
+/// The canonical text of a system is the file of that system, where an equation that is a derivative alone has it as its lead.
+pub fn canonical_texts_are_files()
+    ensures { (bytes : List ℕ) (s : SystemRead) → IsFile bytes s → IsFile (canonical_text s) (with_leads s) }
 {}

@@ -1,0 +1,15 @@
+use Rattle.std.specs.Prelude.{List, map, length, ◌≤◌, ℕ}
+use Rattle.std.specs.List.{AllByRecursion as Every}
+use Rattle.std.proofs.Common.{sym, subst}
+use Rattle.lie_gram.specs.Equations.{equation_read, system_read}
+use Rattle.lie_gram.specs.RightSides.{IsPrintable}
+use Rattle.lie_gram.specs.declared.system.Equation.{Equation}
+use Rattle.lie_gram.proofs.LeadSides.{file_printable}
+use Rattle.lie_gram.proofs.canonical_text.canonical_bytes.Goals as goal
+
+pub push_header-requires : goal.push_header-requires
+push_header-requires c = subst (λ (l : List ℕ). c.args.system.now.space.p ≤ length l) (sym c.bytes-names.ensures) (file_printable c.requires.0 (system_read c.args.system.now) c.requires.1).0
+
+pub push_equations-requires : goal.push_equations-requires
+push_equations-requires c =
+    subst (λ (l : List Equation). Every (IsPrintable c.args.system.now.space) (map (equation_read c.args.system.now.space) l)) (sym c.as_slice.ensures.value) (file_printable c.requires.0 (system_read c.args.system.now) c.requires.1).1
