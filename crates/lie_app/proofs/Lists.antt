@@ -11,28 +11,22 @@ use Rattle.lie_lin.specs.Forms.{triples_of}
 use Rattle.lie_gram.specs.declared.printed_term.Term.{Term}
 use Rattle.lie_gram.specs.Printing.{PrintedTerm}
 use Rattle.lie_gram.specs.PrintedTerms.{printed}
+use Rattle.lie_gram.proofs.PrintedLists.{terms-push}
+use Rattle.lie_invar.proofs.ValidOpening.{map_itself}
 
 triples_of-push : (ts : List (Der × Monomial × ℤ)) (d : Der) (m : Monomial) (z : ℤ) → triples_of (ts ++ (d, m, z) ∷ []) ≡ triples_of ts ++ (derivative_of d, m, z) ∷ []
 triples_of-push [] d m z = refl
 triples_of-push (t ∷ ts) d m z = ap (λ l. (derivative_of t.0, t.1, t.2) ∷ l) (triples_of-push ts d m z)
-
-terms-push : {B : Type 0} (g : B → PrintedTerm) (old new : List Term) (t : Term) (ys : List B) (y : B) → printed t ≡ g y → new ≡ old ++ t ∷ [] → map printed old ≡ map g ys → map printed new ≡ map g (ys ++ y ∷ [])
-terms-push g old new t ys y is pushed so_far =
-    ap (map printed) pushed ∙ map-append printed old (t ∷ []) ∙ ap₂ (λ (l : List PrintedTerm) (s : PrintedTerm). l ++ s ∷ []) so_far is ∙ sym (map-append g ys (y ∷ []))
 
 pub form_terms-push : (old new : List Term) (t : Term) (ts : List (Der × Monomial × ℤ)) (d : Der) (m : Monomial) (z : ℤ) → printed t ≡ (z, m, Some (derivative_of d)) → new ≡ old ++ t ∷ []
     → map printed old ≡ map (λ t. (t.2, t.1, Some t.0)) (triples_of ts) → map printed new ≡ map (λ t. (t.2, t.1, Some t.0)) (triples_of (ts ++ (d, m, z) ∷ []))
 form_terms-push old new t ts d m z is pushed so_far =
     terms-push (λ t. (t.2, t.1, Some t.0)) old new t (triples_of ts) (derivative_of d, m, z) is pushed so_far ∙ sym (ap (map (λ t. (t.2, t.1, Some t.0))) (triples_of-push ts d m z))
 
-map-same : (xs : List ℕ) → map (λ x. x) xs ≡ xs
-map-same [] = refl
-map-same (x ∷ xs) = ap (λ l. x ∷ l) (map-same xs)
-
 pub filter-push : (p : ℕ → Bool) (n : ℕ) → filter p (range_with_len 0 (n + 1)) ≡ filter p (range_with_len 0 n) ++ cond (p n) (n ∷ []) []
 filter-push p n =
-    sym (ap (filter p) (map-same (range_with_len 0 (n + 1)))) ∙ filter_of_map_range_with_len_more p (λ i. i) 0 n n (omega arith)
-    ∙ ap (λ l. filter p l ++ cond (p n) (n ∷ []) []) (map-same (range_with_len 0 n))
+    sym (ap (filter p) (map_itself (range_with_len 0 (n + 1)))) ∙ filter_of_map_range_with_len_more p (λ i. i) 0 n n (omega arith)
+    ∙ ap (λ l. filter p l ++ cond (p n) (n ∷ []) []) (map_itself (range_with_len 0 n))
 
 pub filter-taken : (p : ℕ → Bool) (n : ℕ) (old new : List ℕ) → p n ≡ true → new ≡ old ++ n ∷ [] → old ≡ filter p (range_with_len 0 n) → new ≡ filter p (range_with_len 0 (n + 1))
 filter-taken p n old new taken pushed so_far = pushed ∙ ap (λ l. l ++ n ∷ []) so_far ∙ sym (filter-push p n ∙ ap (λ b. filter p (range_with_len 0 n) ++ cond b (n ∷ []) []) taken)

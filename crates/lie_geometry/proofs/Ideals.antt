@@ -21,7 +21,7 @@ use Rattle.lie_math.specs.PolynomialRing.{*ᴾ-dist, *ᴾ_assoc, one-*ᴾ, polyn
 use Rattle.lie_math.specs.Variables.{IsIn}
 use Rattle.lie_math.proofs.Derivation.{derived-0ᴾ}
 use Rattle.lie_math.proofs.Evaluation.{to_power-plus, to_power_additive, value_in-plus, value_in-0ᴾ, value_in-term, value_in-constant, value_in-variable, value_in-times, generated}
-use Rattle.lie_math.proofs.Integer.{not_zero, product_not_zero}
+use Rattle.lie_math.proofs.Integer.{product_not_zero, one_not_zero}
 use Rattle.lie_math.proofs.LinearMap.{over_terms-term, over_terms-inside}
 use Rattle.lie_math.proofs.Ring.{plus_idr, times_nil, nil_times}
 use Rattle.lie_math.proofs.RingSolver.{v, c0, ◌⊕◌, ◌⊗◌, ⊖, solve, listed}
@@ -53,18 +53,15 @@ others_is (r ∷ rs) w = elim (eqb w r.lead) as (λ t. cond t (product rs) (r.fa
   | false ↦ *ℤ_assoc r.factor (others rs w) (multiplier rs w) ∙ ap (λ z. r.factor *ℤ z) (others_is rs w)
 ]
 
-one_apart : ¬ (pos 1 ≡ pos 0)
-one_apart = not_zero 1 (omega arith)
-
 multiplier_apart : (rs : List SolvedEquation) → NonzeroFactors rs → (w : ℕ) → ¬ (multiplier rs w ≡ pos 0)
-multiplier_apart [] h w = one_apart
+multiplier_apart [] h w = one_not_zero
 multiplier_apart (r ∷ rs) h w = elim (eqb w r.lead) as (λ t. ¬ (cond t r.factor (multiplier rs w) ≡ pos 0)) [
   | true ↦ h 0 r (omega arith)
   | false ↦ multiplier_apart rs (rest_all (λ r. ¬ (r.factor ≡ pos 0)) r rs h) w
 ]
 
 product_apart : (rs : List SolvedEquation) → NonzeroFactors rs → ¬ (product rs ≡ pos 0)
-product_apart [] h = one_apart
+product_apart [] h = one_not_zero
 product_apart (r ∷ rs) h = product_not_zero r.factor (product rs) (h 0 r (omega arith)) (product_apart rs (rest_all (λ r. ¬ (r.factor ≡ pos 0)) r rs h))
 
 multiplier_other : (rs : List SolvedEquation) (w : ℕ) → is_lead rs w ≡ false → multiplier rs w ≡ pos 1
@@ -135,7 +132,7 @@ full [] e = pos 1
 full (r ∷ rs) e = to_power integer_algebra r.factor (e r.lead) *ℤ full rs e
 
 pub full_apart : (rs : List SolvedEquation) → NonzeroFactors rs → (e : ℕ → ℕ) → ¬ (full rs e ≡ pos 0)
-full_apart [] h e = one_apart
+full_apart [] h e = one_not_zero
 full_apart (r ∷ rs) h e = product_not_zero _ _ (power_apart r.factor (h 0 r (omega arith)) (e r.lead)) (full_apart rs (rest_all (λ r. ¬ (r.factor ≡ pos 0)) r rs h) e)
 
 missing_powers_full : (rs : List SolvedEquation) (e : ℕ → ℕ) (m : Monomial) → fits rs e m ≡ true → missing_powers rs e m *ℤ lead_powers rs m ≡ full rs e
@@ -276,7 +273,7 @@ module _ (rs : List SolvedEquation) (apart : NonzeroFactors rs) (distinct : Have
   I P = InIdeal Δ P
 
   multiple_none : HasMultiple 0ᴾ
-  multiple_none = record { number = pos 1; nonzero = one_apart; is = in_same Δ (sym (times_nil polynomial_ring (constant (pos 1)))) (ideal-0ᴾ Δ) }
+  multiple_none = record { number = pos 1; nonzero = one_not_zero; is = in_same Δ (sym (times_nil polynomial_ring (constant (pos 1)))) (ideal-0ᴾ Δ) }
 
   multiple_sum : (p q : WholePolynomial) → HasMultiple p → HasMultiple q → HasMultiple (p +ᴾ q)
   multiple_sum p q h k = record {
@@ -295,7 +292,7 @@ module _ (rs : List SolvedEquation) (apart : NonzeroFactors rs) (distinct : Have
       turned a n p = solve polynomial_ring (listed a (a ∷ n ∷ p ∷ [])) (v 0 ⊗ (v 1 ⊗ v 2)) (v 1 ⊗ (v 0 ⊗ v 2)) refl
 
   multiple_of_in : (p : WholePolynomial) → I p → HasMultiple p
-  multiple_of_in p h = record { number = pos 1; nonzero = one_apart; is = in_same Δ (sym (one-*ᴾ p)) h }
+  multiple_of_in p h = record { number = pos 1; nonzero = one_not_zero; is = in_same Δ (sym (one-*ᴾ p)) h }
 
   multiple_same : (p q : WholePolynomial) → p ≡ q → HasMultiple p → HasMultiple q
   multiple_same p q e h = subst HasMultiple e h

@@ -102,7 +102,7 @@ module _ (S : Space) (some_p : 0 < S.p) (some_q : 0 < S.q) where
           by false f g = ltb-false n (order J) f
 
 -- ---- the numbers are small
-sums_small : (p : ℕ) → p ≤ 4 → sum_below (ways p) 13 ≤ 1820
+pub sums_small : (p : ℕ) → p ≤ 4 → sum_below (ways p) 13 ≤ 1820
 sums_small zero h = omega arith
 sums_small (suc zero) h = omega arith
 sums_small (suc (suc zero)) h = omega arith

@@ -24,7 +24,7 @@ use Rattle.lie_math.proofs.LinearMap.{IsAdditive, over_terms_additive, over_term
 use Rattle.lie_math.proofs.Substitution.{value_in_itself}
 use Rattle.lie_math.proofs.Variables.{kept_in}
 use Rattle.lie_geometry.specs.DeterminingEquations.{restrict, part}
-use Rattle.lie_geometry.proofs.Reduction.{·_idr}
+use Rattle.lie_math.proofs.Monomial.{plus_zero, ·_idr}
 
 -- the factors with variables outside S
 abbrev pub outer : (ℕ → Bool) → Monomial → Monomial
@@ -32,9 +32,6 @@ outer S m = restrict (λ v. not (S v)) m
 
 abbrev pub same_monomial : Monomial → Monomial → Bool
 same_monomial m n = eq_by_cmp monomial_cmp m n
-
-nat_plain : (n : ℕ) → n + 0 ≡ n
-nat_plain n = omega arith
 
 pub exponent-restrict : (S : ℕ → Bool) (m : Monomial) (v : ℕ) → exponent (restrict S m) v ≡ cond (S v) (exponent m v) 0
 unfolding restrict
@@ -66,7 +63,7 @@ restrict_join S m = ext powers (restrict S m · outer S m) m (λ v.
     value-plus powers (restrict S m) (outer S m) v ∙ ap₂ (λ a b. a + b) (exponent-restrict S m v) (exponent-restrict (λ v. not (S v)) m v) ∙ joined (S v) (exponent m v))
   where
     joined : (t : Bool) (a : ℕ) → cond t a 0 + cond (not t) a 0 ≡ a
-    joined true a = nat_plain a
+    joined true a = plus_zero a
     joined false a = plain a
       where
         plain : (a : ℕ) → 0 + a ≡ a

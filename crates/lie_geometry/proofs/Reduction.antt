@@ -11,7 +11,6 @@ use Rattle.lie_math.specs.Evaluation.{factors, to_power, monomial_value}
 use Rattle.lie_math.specs.FiniteSumLaws.{sum-term, sum-plus, value-plus, value-term, plus_idl, term_additive, sum_of_terms}
 use Rattle.lie_math.specs.Integer.{*ℤ-distl, *ℤ_assoc, *ℤ-idl, *ℤ-distr, integer_algebra}
 use Rattle.lie_math.specs.Monomial.{powers, Monomial, exponent, unit, ◌·◌, single}
-use Rattle.lie_math.specs.MonomialOrder.{·_comm, ·_idl}
 use Rattle.lie_math.specs.Natural.{maxima}
 use Rattle.lie_math.specs.Polynomial.{term, terms, WholePolynomial, 0ᴾ, ◌+ᴾ◌, polynomials, over_terms, ◌*ᴾ◌, constant, variable}
 use Rattle.lie_math.specs.PolynomialRing.{AdditiveOnTerms, +ᴾ-*ᴾ, *ᴾ-dist, *ᴾ_assoc, polynomial_ring, term_times_term, constant-plus, constant-times, polynomial_algebra}
@@ -26,6 +25,8 @@ use Rattle.lie_math.proofs.RingSolver.{v, ◌⊗◌, solve, listed}
 use Rattle.lie_math.proofs.Weighing.{scaled_additive, weigh, weigh-plus, weigh_none, torsion}
 use Rattle.lie_geometry.specs.SolvedEquations.{SolvedEquation, is_lead, replacement, missing_powers, reduced_by}
 use Rattle.lie_geometry.proofs.Booleans.{and_left, and_right, or_left, or_right}
+use Rattle.lie_math.proofs.PartialDerivative.{last_factors_swap}
+use Rattle.lie_math.proofs.Monomial.{·_idr}
 
 abbrev terms_greatest : List (Monomial × ℤ) → ℕ → ℕ
 terms_greatest es w = sum_of_entries maxima (λ m a. exponent m w) es
@@ -33,12 +34,6 @@ terms_greatest es w = sum_of_entries maxima (λ m a. exponent m w) es
 -- the greatest exponent of w in a term of P
 abbrev pub greatest_exponent : WholePolynomial → ℕ → ℕ
 greatest_exponent P w = degree_in w P
-
-inner : (a b c : ℤ) → (a *ℤ b) *ℤ c ≡ (a *ℤ c) *ℤ b
-inner a b c = *ℤ_assoc a b c ∙ ap (λ x. a *ℤ x) (*ℤ_comm b c) ∙ sym (*ℤ_assoc a c b)
-
-pub ·_idr : (m : Monomial) → m · unit ≡ m
-·_idr m = ·_comm m unit ∙ ·_idl m
 
 -- a variable that is no lead
 exponent_other : (m : Monomial) (w l : ℕ) → eqb w l ≡ false → exponent (m · single w) l ≡ exponent m l
@@ -84,7 +79,7 @@ module _ (rs : List SolvedEquation) (e : ℕ → ℕ) where
   pub reduced_by_out : (S : ℕ → Bool) → ((w : ℕ) → S w ≡ true → is_lead rs w ≡ false) → (p f : WholePolynomial) → IsIn S f → reduced_by rs e (p *ᴾ f) ≡ reduced_by rs e p *ᴾ f
   unfolding reduced_by
   reduced_by_out S apart = over_terms-out reduced_term reduced_term_additive S
-      (λ c m a. ap (λ n. reduced_term n (a *ℤ c)) (·_idr m) ∙ ap (λ z. constant z *ᴾ M m) (inner a c (missing_powers rs e m)) ∙ ap (λ z. z *ᴾ M m) (constant-times (a *ℤ missing_powers rs e m) c) ∙ moved (constant (a *ℤ missing_powers rs e m)) (M m) (constant c))
+      (λ c m a. ap (λ n. reduced_term n (a *ℤ c)) (·_idr m) ∙ ap (λ z. constant z *ᴾ M m) (last_factors_swap a c (missing_powers rs e m)) ∙ ap (λ z. z *ᴾ M m) (constant-times (a *ℤ missing_powers rs e m) c) ∙ moved (constant (a *ℤ missing_powers rs e m)) (M m) (constant c))
       (λ w h m a. ap₂ (λ z n. constant z *ᴾ n)
       (ap₂ ◌*ℤ◌ (*ℤ_comm a (pos 1) ∙ *ℤ-idl a) (missing_powers_other rs e m w (apart w h)))
       (sum-plus powers (factors polynomial_algebra) _ (to_power_additive polynomial_algebra (replacement rs)) m (single w)
@@ -121,7 +116,7 @@ module _ (rs : List SolvedEquation) (e : ℕ → ℕ) where
   unfolding weigh
   bounded_out S apart p f k h =
       over_terms-out (λ k a. term k (a *ℤ outside rs e k)) (scaled_additive (outside rs e)) S
-      (λ c m a. ap (λ n. term n ((a *ℤ c) *ℤ outside rs e n)) (·_idr m) ∙ ap₂ term (sym (·_idr m)) (inner a c (outside rs e m)) ∙ sym (term_times_term m unit (a *ℤ outside rs e m) c))
+      (λ c m a. ap (λ n. term n ((a *ℤ c) *ℤ outside rs e n)) (·_idr m) ∙ ap₂ term (sym (·_idr m)) (last_factors_swap a c (outside rs e m)) ∙ sym (term_times_term m unit (a *ℤ outside rs e m) c))
       (λ w g m a. ap (term (m · single w)) (ap₂ ◌*ℤ◌ (*ℤ_comm a (pos 1) ∙ *ℤ-idl a) (ap (λ t. cond t (pos 0) (pos 1)) (fits_other rs e m w (apart w g))) ∙ sym (*ℤ_comm (a *ℤ outside rs e m) (pos 1) ∙ *ℤ-idl (a *ℤ outside rs e m))) ∙ sym (term_times_term m (single w) (a *ℤ outside rs e m) (pos 1)))
       p f k ∙ ap (λ z. z *ᴾ f) h ∙ nil_times polynomial_ring f
 

@@ -45,7 +45,7 @@ pub replicate_length : (n : ℕ) → length {A = ℕ} (replicate n 0) ≡ n
 replicate_length zero = refl
 replicate_length (suc n) = ap suc (replicate_length n)
 
-replicate_order : (n : ℕ) → order (replicate n 0) ≡ 0
+pub replicate_order : (n : ℕ) → order (replicate n 0) ≡ 0
 replicate_order zero = refl
 replicate_order (suc n) = plain (order (replicate n 0)) ∙ replicate_order n
   where

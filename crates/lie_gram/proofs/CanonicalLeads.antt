@@ -61,7 +61,7 @@ alone-is S (t ∷ []) c h = go (is_one t.1) refl h
     go false e h = cc
 alone-is S (t ∷ u ∷ ts) c h = cc
 
-list-single : (w : ℕ) → (single w).list ≡ (w, 1) ∷ []
+pub list-single : (w : ℕ) → (single w).list ≡ (w, 1) ∷ []
 unfolding finite.term
 list-single w = list-of powers ((w, 1) ∷ []) tt
 

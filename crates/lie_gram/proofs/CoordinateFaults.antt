@@ -42,7 +42,7 @@ named-is names word i h = let p = place_word-is names word i h in (p.0, i, p.1, 
 is-named : (names word : List ℕ) → IsName names word → (i : ℕ) × (place_of_word names word ≡ Some i)
 is-named names word h = (h.1, ap (place_of_word names) h.2 ∙ h.3)
 
-unnamed-is : (names word : List ℕ) → place_of_word names word ≡ None → IsName names word → ⊥
+pub unnamed-is : (names word : List ℕ) → place_of_word names word ≡ None → IsName names word → ⊥
 unnamed-is names word h is = let n = is-named names word is in let clash : ◌≡◌ {A = Option ℕ} None (Some n.0) = sym h ∙ n.1 in absurd (differ n.0 clash)
   where
     differ : (n : ℕ) → ◌≡◌ {A = Option ℕ} None (Some n) → ⊥
@@ -69,7 +69,7 @@ is-not_names names word h = go (are_names names word) refl
     go true e = absurd (h (are_names-is names word e))
 
 -- ---- what stops a coordinate
-no_run : (bs : List ℕ) → (length (run Letter bs) == 0) ≡ true → BeginsOutside Letter bs
+pub no_run : (bs : List ℕ) → (length (run Letter bs) == 0) ≡ true → BeginsOutside Letter bs
 no_run [] e = tt
 no_run (b ∷ bs) e = go (is_in Letter b) e
   where

@@ -8,10 +8,7 @@ use Rattle.lie_ring.specs.Entries.{entries}
 use Rattle.lie_gram.specs.Terms.{equation_of}
 use Rattle.lie_gram.specs.Leads.{lead_of}
 use Rattle.lie_gram.specs.Files.{equation_at}
-
-pub entries_same : (ts : List (Monomial × ℤ)) → entries (λ w. w) ts ≡ ts
-entries_same [] = refl
-entries_same (t ∷ ts) = ap (λ l. t ∷ l) (entries_same ts)
+use Rattle.lie_jet.proofs.TotalParts.{entries_same}
 
 pub equation_is : (S : Space) (names text : List ℕ) (ts fs : List (Monomial × ℤ)) (lead : Option Coordinate) (diff : WholePolynomial)
     → equation_of S names text ≡ Ok ts → lead ≡ lead_of S names text → diff ≡ polynomial_of (entries (λ w. w) fs) → fs ≡ ts → equation_at S names text ≡ Ok (record { lead = lead; diff = diff })

@@ -1,6 +1,6 @@
 -- The tokens and terms of field texts: what is of the grammar is read, and each fault of it stops the reader.
 use Rattle.std.specs.Prelude.{ℕ, ◌≡◌, ◌^◌, ◌<◌, ◌≤◌, ◌⊎◌, Bool, true, false, ◌==◌, ◌&&◌, nat_lt, List, [], ◌∷◌, ◌++◌, length, Option, Some, None, Ok, Err, refl}
-use Rattle.std.proofs.Common.{sym, ap, ◌∙◌, subst, inl, inr, arith}
+use Rattle.std.proofs.Common.{sym, ap, ◌∙◌, subst, inl, inr, arith, true≢false}
 use Rattle.std.proofs.lemmas.Bool.Decides.{nat_tests}
 use Rattle.lie_math.specs.Monomial.{Monomial, exponent, power_of, unit, ◌·◌}
 use Rattle.lie_gram.specs.declared.fault.BadKind.TheVariants.{Syntax, Number, UnknownName, Exponent}
@@ -150,9 +150,6 @@ word_outside : (word rest : List ℕ) → IsLetters word → BeginsOutside Blank
 word_outside [] rest letters = let some = letters.some in absurd (omega arith)
 word_outside (l ∷ ls) rest letters = no_blank_letter l (letters.are).0
 
-true_false : true ≡ false → ⊥
-true_false e = cc
-
 letterless : (bs : List ℕ) → BeginsOutside Letter bs → begins_base bs ≡ false
 letterless [] h = refl
 letterless (b ∷ []) h = refl
@@ -160,7 +157,7 @@ letterless (b ∷ c ∷ bs) h = go (b == 100) refl
   where
     go : (t : Bool) → (b == 100) ≡ t → (t && c == 95) ≡ false
     go false e = refl
-    go true e = let d : b ≡ 100 = grind (arith, nat_tests, e) in let letter : is_in Letter b ≡ true = ap (is_in Letter) d in absurd (true_false (sym letter ∙ h))
+    go true e = let d : b ≡ 100 = grind (arith, nat_tests, e) in let letter : is_in Letter b ≡ true = ap (is_in Letter) d in absurd (true≢false (sym letter ∙ h))
 
 -- ---- powers and base vectors
 module _ (names : List ℕ) (m : Monomial) (text : List ℕ) where

@@ -15,9 +15,10 @@ use Rattle.lie_gram.specs.Terms.{raised}
 use Rattle.lie_gram.specs.FieldGrammar.{begins_base}
 use Rattle.lie_gram.specs.FieldReading.{star_by, star_at, denominator_at, under_by, under_at, fraction_at, coefficient_by, coefficient_at, place_by, name_at, variable_power_at, factor_by, factor_turn, factors_at, field_term_at, with_field_term, put_by, signed_at, term_by, term_turn}
 use Rattle.lie_gram.proofs.Blanks.{bind_then, guard_else, ok_is}
-use Rattle.lie_gram.proofs.Shorter.{Within, behind_shorter, literal_within, exponent_within}
+use Rattle.lie_gram.proofs.Shorter.{Within, behind_shorter, literal_within, exponent_within, within_if}
 use Rattle.lie_gram.proofs.TurnSteps.{TurnWithin, TakesBytes}
-use Rattle.lie_gram.proofs.TermSteps.{TurnLeaves, turns_within}
+use Rattle.lie_gram.proofs.TermSteps.{TurnLeaves, turns_within, leaves_if}
+use Rattle.lie_gram.proofs.FactorSteps.{turn_within_if}
 
 -- ---- steps
 then_within : {A B : Type 0} (m : ℕ) (r : Result A Stop) (f : A → Result (B × List ℕ) Stop) → ((x : A) → r ≡ Ok x → Within m (f x)) → Within m (r >>= f)
@@ -31,18 +32,6 @@ then_turn m (Err e) f k = tt
 then_leaves : {A B S : Type 0} (m : ℕ) (r : Result A Stop) (f : A → Result (Turn S (B × List ℕ)) Stop) → ((x : A) → r ≡ Ok x → TurnLeaves m (f x)) → TurnLeaves m (r >>= f)
 then_leaves m (Ok x) f k = k x refl
 then_leaves m (Err e) f k = tt
-
-if_within : {A : Type 0} (n : ℕ) (b : Bool) (r s : Result (A × List ℕ) Stop) → Within n r → Within n s → Within n (if b then r else s)
-if_within n true r s h k = h
-if_within n false r s h k = k
-
-if_turn : {S R : Type 0} (n : ℕ) (b : Bool) (r s : Result (Turn S R) Stop) → TurnWithin n r → TurnWithin n s → TurnWithin n (if b then r else s)
-if_turn n true r s h k = h
-if_turn n false r s h k = k
-
-if_leaves : {A S : Type 0} (n : ℕ) (b : Bool) (r s : Result (Turn S (A × List ℕ)) Stop) → TurnLeaves n r → TurnLeaves n s → TurnLeaves n (if b then r else s)
-if_leaves n true r s h k = h
-if_leaves n false r s h k = k
 
 left : {A : Type 0} (n : ℕ) (r : Result (A × List ℕ) Stop) (x : A × List ℕ) → Within n r → r ≡ Ok x → length x.1 ≤ n
 left n r x h is = subst (Within n) is h
@@ -61,12 +50,12 @@ star_less text rest h = let a = star_by_less (after_blanks text) rest h in let b
 
 denominator_within : (text : List ℕ) → Within (length text) (denominator_at text)
 unfolding denominator_at
-denominator_within text = then_within (length text) (literal_at text) _ (λ d is. if_within (length text) (d.0 == 0) _ _ tt (left (length text) (literal_at text) d (literal_within text) is))
+denominator_within text = then_within (length text) (literal_at text) _ (λ d is. within_if (length text) (d.0 == 0) _ _ tt (left (length text) (literal_at text) d (literal_within text) is))
 
 under_by_within : (text bs : List ℕ) → length bs ≤ length text → Within (length text) (under_by text bs)
 under_by_within text [] h = let k : length text ≤ length text = omega arith in k
 under_by_within text (c ∷ cs) h =
-    if_within (length text) (c == 47) _ _ (widen (denominator_at cs) (denominator_within cs)) (let k : length text ≤ length text = omega arith in k)
+    within_if (length text) (c == 47) _ _ (widen (denominator_at cs) (denominator_within cs)) (let k : length text ≤ length text = omega arith in k)
   where
     widen : (r : Result (ℕ × List ℕ) Stop) → Within (length cs) r → Within (length text) r
     widen (Ok x) k = omega arith
@@ -89,7 +78,7 @@ fraction_within text =
 
 coefficient_by_within : (text bs : List ℕ) → Within (length text) (coefficient_by text bs)
 coefficient_by_within text [] = let k : length text ≤ length text = omega arith in k
-coefficient_by_within text (c ∷ cs) = if_within (length text) (is_in Digit c) _ _ (fraction_within text) (let k : length text ≤ length text = omega arith in k)
+coefficient_by_within text (c ∷ cs) = within_if (length text) (is_in Digit c) _ _ (fraction_within text) (let k : length text ≤ length text = omega arith in k)
 
 coefficient_within : (text : List ℕ) → Within (length text) (coefficient_at text)
 unfolding coefficient_at
@@ -103,7 +92,7 @@ place_within n (Some i) whole rest h = h
 name_within : (names whole text : List ℕ) → Within (length text) (name_at names whole text)
 unfolding name_at
 name_within names whole text =
-    if_within (length text) (length (run Letter text) == 0) _ _ tt (place_within (length text) (place_of_word names (run Letter text)) whole (behind Letter text) (behind_shorter Letter text))
+    within_if (length text) (length (run Letter text) == 0) _ _ tt (place_within (length text) (place_of_word names (run Letter text)) whole (behind Letter text) (behind_shorter Letter text))
 
 drop_shorter : (n : ℕ) (bs : List ℕ) → length (drop n bs) ≤ length bs
 drop_shorter zero bs = omega arith
@@ -126,7 +115,7 @@ power_less names m text x h =
 
 factor_takes : (names : List ℕ) (m : Monomial) (text : List ℕ) (n : ℕ) → length text ≤ n → TurnWithin n (factor_by names m text)
 factor_takes names m text n low =
-    if_turn n (begins_base text) _ _ (then_turn n (name_at names text (drop 2 text)) _ (λ v is. tt))
+    turn_within_if n (begins_base text) _ _ (then_turn n (name_at names text (drop 2 text)) _ (λ v is. tt))
     (then_turn n (variable_power_at names m text) _ (λ x is. let k = power_less names m text x is in omega arith))
 
 pub factor_turn_takes : (names : List ℕ) → TakesBytes (factor_turn names)
@@ -134,7 +123,7 @@ factor_turn_takes names m text = factor_takes names m (after_blanks text) (lengt
 
 factor_leaves : (names : List ℕ) (m : Monomial) (text : List ℕ) (n : ℕ) → length text ≤ n → TurnLeaves n (factor_by names m text)
 factor_leaves names m text n low =
-    if_leaves n (begins_base text) _ _
+    leaves_if n (begins_base text) _ _
     (then_leaves n (name_at names text (drop 2 text)) _ (λ v is.
     let a = left (length (drop 2 text)) (name_at names text (drop 2 text)) v (name_within names text (drop 2 text)) is in
     let b = drop_shorter 2 text in
@@ -168,9 +157,9 @@ signed_within names negative ts text =
 term_by_takes : (names : List ℕ) (ts : List FieldTerm) (bs : List ℕ) (n : ℕ) → length bs ≤ n → TurnWithin n (term_by names ts bs)
 term_by_takes names ts [] n low = tt
 term_by_takes names ts (c ∷ cs) n low =
-    if_turn n (c == 43) _ _
+    turn_within_if n (c == 43) _ _
     (then_turn n (signed_at names false ts cs) _ (λ x is. let k = left (length cs) (signed_at names false ts cs) x (signed_within names false ts cs) is in omega arith))
-    (if_turn n (c == 45) _ _
+    (turn_within_if n (c == 45) _ _
     (then_turn n (signed_at names true ts cs) _ (λ x is. let k = left (length cs) (signed_at names true ts cs) x (signed_within names true ts cs) is in omega arith)) tt)
 
 pub term_turn_takes : (names : List ℕ) → TakesBytes (term_turn names)

@@ -22,8 +22,9 @@ use Rattle.std.proofs.lemmas.Nat.{le-div}
 use Rattle.lie_gram.proofs.Blanks.{and_true}
 use Rattle.lie_systems.specs.Normalised.{common_divisor}
 use Rattle.lie_systems.proofs.Divisors.{common_divisor_is}
-use Rattle.lie_gram.proofs.FieldSteps.{take_more, quotient_some}
+use Rattle.lie_gram.proofs.FieldSteps.{quotient_some}
 use Rattle.lie_gram.proofs.SizeSteps.{equal_from_is_eq, pairs_same, pairs_itself}
+use Rattle.lie_ring.proofs.Fronts.{take_more}
 
 -- ---- like terms
 at_says : (s : ℕ) (m : Monomial) (t : FieldTerm) → is_at s m t ≡ true → (t.place ≡ s) × (m ≡ t.monomial)

@@ -30,6 +30,7 @@ use Rattle.lie_gram.proofs.FieldParts.{one_sum}
 use Rattle.lie_gram.proofs.FieldTold.{Told}
 use Rattle.lie_gram.proofs.FieldSums.{AreTextTerms, IsTextFault, text_told}
 use Rattle.lie_gram.proofs.FieldSumsBack.{text_some, text_is, text_fails}
+use Rattle.lie_gram.proofs.FileCoordinates.{place_bound}
 
 -- ---- bytes
 abbrev AreInLine : List ℕ → Type 0
@@ -93,17 +94,8 @@ fault_read names bytes f (in_sum s short allowed apart fault) =
     let low : nat_lt 65536 (length bytes) ≡ false = grind (arith, nat_tests, short) in
     rw (low, is-allowed 1 bytes allowed, text_fails names bytes s (apart, fault)) refl
 
--- ---- the variables of the terms
-place_from_low : (k : ℕ) (names : List ℕ) (c i : ℕ) → place_from k names c ≡ Some i → i < k + length names
-place_from_low k [] c i h = cc
-place_from_low k (n ∷ ns) c i h = go (n == c) h (place_from_low (k + 1) ns c i)
-  where
-    go : (t : Bool) → (if t then Some k else place_from (k + 1) ns c) ≡ Some i → (place_from (k + 1) ns c ≡ Some i → i < k + 1 + length ns) → i < k + length (n ∷ ns)
-    go true e again = let same : k ≡ i = cc in omega arith
-    go false e again = let low = again e in omega arith
-
 place_low : (names : List ℕ) (c i : ℕ) → place_of names c ≡ Some i → i < length names
-place_low names c i h = let low = place_from_low 0 names c i h in omega arith
+place_low names c i h = let low = place_bound 0 names c i h in omega arith
 
 product_free : (n v : ℕ) → n ≤ v → (m : Monomial) (ps : List (ℕ × ℕ)) → exponent m v ≡ 0 → Every (λ (p : ℕ × ℕ). p.0 < n) ps → exponent (product m ps) v ≡ 0
 product_free n v le m [] none h = none

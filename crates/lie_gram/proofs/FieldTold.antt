@@ -22,7 +22,7 @@ use Rattle.lie_gram.specs.FieldReading.{star_by, star_at, denominator_at, under_
 use Rattle.lie_gram.proofs.Blanks.{run_is, run_in, behind_outside, blanks_to, and_true}
 use Rattle.lie_gram.proofs.NumberLaws.{AreDigitsAt, digits_at-is, literal_at-is}
 use Rattle.lie_gram.proofs.CoordinateLaws.{place_word-is}
-use Rattle.lie_gram.proofs.CoordinateFaults.{err_is, bind_fails}
+use Rattle.lie_gram.proofs.CoordinateFaults.{err_is, bind_fails, no_run, unnamed-is}
 use Rattle.lie_gram.proofs.PowerLaws.{exponent_at-is}
 use Rattle.lie_gram.proofs.PowerFaults.{digits_at-fails, large_digits, digits_make, value_fails}
 use Rattle.lie_gram.proofs.TermLaws.{BeginsDigit}
@@ -191,28 +191,14 @@ pub data IsNameFault (names whole text : List ℕ) : Stop → Type 0 where
   nothing : BeginsOutside Letter text → IsNameFault names whole text (stop Syntax text)
   unknown : (word rest : List ℕ) → text ≡ word ++ rest → IsLetters word → BeginsOutside Letter rest → (IsName names word → ⊥) → IsNameFault names whole text (stop UnknownName whole)
 
-not_name : (names word : List ℕ) → place_of_word names word ≡ None → IsName names word → ⊥
-not_name names word none n = clash (sym none ∙ ap (place_of_word names) n.2 ∙ n.3)
-  where
-    clash : ◌≡◌ {A = Option ℕ} None (Some n.1) → ⊥
-    clash e = cc
-
-no_letters : (bs : List ℕ) → (length (run Letter bs) == 0) ≡ true → BeginsOutside Letter bs
-no_letters [] e = tt
-no_letters (b ∷ bs) e = go (is_in Letter b) e
-  where
-    go : (t : Bool) → (length (if t then b ∷ run Letter bs else []) == 0) ≡ true → t ≡ false
-    go false k = refl
-    go true k = let none : length (b ∷ run Letter bs) ≡ 0 = grind (arith, nat_tests, k) in absurd (omega arith)
-
 name_told : (names whole text : List ℕ) → Told (IsNameAt names text) (IsNameFault names whole text) (name_at names whole text)
 unfolding name_at
 name_told names whole text =
     told_if (IsNameAt names text) (IsNameFault names whole text) (length (run Letter text) == 0) (Err (stop Syntax text)) (place_by (place_of_word names (run Letter text)) whole (behind Letter text))
-    (λ e. nothing (no_letters text e)) (λ e. go (grind (arith, nat_tests, e)) (place_of_word names (run Letter text)) refl)
+    (λ e. nothing (no_run text e)) (λ e. go (grind (arith, nat_tests, e)) (place_of_word names (run Letter text)) refl)
   where
     go : 1 ≤ length (run Letter text) → (o : Option ℕ) → place_of_word names (run Letter text) ≡ o → Told (IsNameAt names text) (IsNameFault names whole text) (place_by o whole (behind Letter text))
-    go some None none = unknown (run Letter text) (behind Letter text) (run_is Letter text) (record { are = run_in Letter text; some = some }) (behind_outside Letter text) (not_name names (run Letter text) none)
+    go some None none = unknown (run Letter text) (behind Letter text) (run_is Letter text) (record { are = run_in Letter text; some = some }) (behind_outside Letter text) (unnamed-is names (run Letter text) none)
     go some (Some i) is =
         let n = place_word-is names (run Letter text) i is in
         let first = subst (AreIn Letter) n.1 (run_in Letter text) in

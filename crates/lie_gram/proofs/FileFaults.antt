@@ -1,7 +1,7 @@
 -- Faults of files: what stops the reader is a fault of the grammar, and each such fault stops it. A text has one system, or one fault.
 use Rattle.std.specs.Prelude.{ℕ, ◌≡◌, ◌≤◌, ◌⊎◌, Bool, true, false, nat_lt, List, [], ◌++◌, length, Option, Some, None, Ok, Err, codes, refl}
 use Rattle.std.specs.declared.result.Result.{Result}
-use Rattle.std.proofs.Common.{sym, ap, ◌∙◌, subst, inl, inr, arith}
+use Rattle.std.proofs.Common.{sym, ap, ◌∙◌, subst, inl, inr, arith, true≢false}
 use Rattle.std.proofs.lemmas.Bool.Decides.{nat_tests}
 use Rattle.lie_geometry.specs.Coordinates.{Space}
 use Rattle.lie_gram.specs.declared.fault.BadKind.TheVariants.{TooLong, NotAscii, Header}
@@ -29,10 +29,6 @@ plain_vars = (refl, (refl, (refl, (refl, tt))))
 plain_deps : IsPlain (codes "deps")
 plain_deps = (refl, (refl, (refl, (refl, tt))))
 
--- ---- the header
-differ : true ≡ false → ⊥
-differ e = cc
-
 after_header-fails : (lines : List (List ℕ)) (f : FileFail) → after_header lines ≡ Err f → IsLinesFault lines f
 unfolding after_header
 after_header-fails lines f h = go (next_line lines) refl h
@@ -40,7 +36,7 @@ after_header-fails lines f h = go (next_line lines) refl h
     go : (o : Option (List ℕ × List (List ℕ))) → next_line lines ≡ o → header_by o (length lines) ≡ Err f → IsLinesFault lines f
     go None at e = subst (IsLinesFault lines) (err_is (fails.Fault (record { kind = Header; lines_left = length lines; column = 1 })) f e) (no_header at)
     go (Some x) at e = other_fails (is_header x.0) (fault_at Header x.0 (length x.1) (after_blanks x.0)) f (Ok x.1) e
-        (λ other same. subst (IsLinesFault lines) same (other_header x.0 x.1 at (λ is. differ (sym (is-is_header x.0 is) ∙ other))))
+        (λ other same. subst (IsLinesFault lines) same (other_header x.0 x.1 at (λ is. true≢false (sym (is-is_header x.0 is) ∙ other))))
         (λ header k. cc)
 
 no_header_is : (content : List ℕ) → (IsHeader content → ⊥) → is_header content ≡ false

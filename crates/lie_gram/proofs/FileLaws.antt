@@ -16,10 +16,7 @@ use Rattle.lie_gram.specs.FileGrammar.{AreSystem, is_allowed, AreAllowed, conten
 use Rattle.lie_gram.proofs.Blanks.{bind_then, guard_then, ok_is}
 use Rattle.lie_gram.proofs.WordLaws.{IsPlain}
 use Rattle.lie_gram.proofs.LineLaws.{after_header-is, is-after_header, names_of-is, is-names_of, equations_from-is, is-equations_from}
-
--- ---- systems
-pub append_less : (a b : List ℕ) → length (a ++ b) - length a ≡ length b
-append_less a b = let e = length-append a b in omega arith
+use Rattle.lie_gram.proofs.NameFaults.{append_less}
 
 pub space_is : (independent dependent : List ℕ) → space_of independent (independent ++ dependent) ≡ record { p = length independent; q = length dependent }
 space_is independent dependent = ap (λ n. record { p = length independent; q = n }) (append_less independent dependent)

@@ -18,11 +18,7 @@ use Rattle.lie_gram.specs.Meaning.{EquationRead, product}
 use Rattle.lie_gram.specs.TokenGrammar.{IsPower}
 use Rattle.lie_gram.specs.SumGrammar.{AreFactors, IsFirstFactor, IsTerm, AreTerms, IsSum, IsEquation}
 use Rattle.lie_gram.proofs.FileCoordinates.{coordinate_good, good_number}
-
--- ---- lists
-pub every-append : {X : Type 0} (Q : X → Type 0) (xs ys : List X) → Every Q xs → Every Q ys → Every Q (xs ++ ys)
-every-append Q [] ys h k = k
-every-append Q (x ∷ xs) ys h k = (h.0, every-append Q xs ys h.1 k)
+use Rattle.lie_ring.proofs.Fronts.{every-append}
 
 -- a monomial with a number other than 0 is that of some term
 pub at_entry : (Q : Monomial → Type 0) (es : List (Monomial × ℤ)) → Every (λ (e : Monomial × ℤ). Q e.0) es → (m : Monomial) → ¬ (value_at monomial_cmp coefficients m es ≡ pos 0) → Q m

@@ -39,23 +39,23 @@ mod FieldSumsBack
 mod FieldTexts
 mod FieldLaws
 mod CommonDenominators
-mod PrintedVariables
+pub mod PrintedVariables
 mod PrintedTexts
-mod PrintedLists
+pub mod PrintedLists
 mod RightSideSteps
-mod FileCoordinates
+pub mod FileCoordinates
 mod LeadSides
 mod RightSideLists
 mod PrintedCoordinates
 mod PrintedPowers
 mod PrintedSums
 mod PrintedLines
-mod PrintedEquations
+pub mod PrintedEquations
 mod PrintedSizes
 mod PrintedFiles
 mod PrintedMonomials
-mod FileTerms
+pub mod FileTerms
 mod CanonicalTerms
-mod CanonicalLeads
+pub mod CanonicalLeads
 mod PrintedBytes
 mod CanonicalFiles

@@ -201,7 +201,7 @@ names_stop before text names rest word back s are few is in_word some fault =
     (by_word b (before ++ names) (after_blanks rest) word spelled some ∙ ap (λ r. r >>= λ n. Ok (goes_on ((before ++ names) ++ n ∷ []) (behind Word (after_blanks rest)))) (is-name_fault (before ++ names) (length (before ++ names) - b) word (after_blanks rest) s fault)) in
     rw stops refl
 
-append_less : (before names : List ℕ) → length (before ++ names) - length before ≡ length names
+pub append_less : (before names : List ℕ) → length (before ++ names) - length before ≡ length names
 append_less before names = let e = length-append before names in omega arith
 
 is-names_fault : (before text : List ℕ) (s : Stop) → IsNamesFault before text s → names_at before text ≡ Err s

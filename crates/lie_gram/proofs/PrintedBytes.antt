@@ -15,12 +15,12 @@ use Rattle.lie_gram.specs.RightSides.{plain_terms}
 use Rattle.lie_gram.specs.Runs.{is_in, after_blanks}
 use Rattle.lie_gram.specs.TokenGrammar.{AreIn}
 use Rattle.lie_gram.proofs.Blanks.{and_true, letter_range, digit_range}
-use Rattle.lie_gram.proofs.FileTerms.{every-append}
 use Rattle.lie_gram.proofs.NumberLaws.{all_digits}
 use Rattle.lie_gram.proofs.PrintedCoordinates.{AreDistinct}
 use Rattle.lie_gram.proofs.PrintedFiles.{IsContentLine}
 use Rattle.lie_gram.proofs.PrintedPowers.{IsLowPower}
 use Rattle.lie_gram.proofs.PrintedSums.{IsLowTerm}
+use Rattle.lie_ring.proofs.Fronts.{every-append}
 
 -- ---- bytes
 -- a space to `~` without `#`

@@ -15,6 +15,7 @@ use Rattle.lie_gram.specs.Runs.{is_in}
 use Rattle.lie_gram.specs.TokenGrammar.{BeginsOutside, IsNot, IsNumber, IsCoordinateAt}
 use Rattle.lie_gram.proofs.Blanks.{no_blanks}
 use Rattle.lie_gram.proofs.FileCoordinates.{IsGood}
+use Rattle.lie_math.specs.Natural.{nat_idl}
 
 -- ---- numbers
 pub decimal_number : (n : ℕ) (rest : List ℕ) → n < 2 ^ 128 → BeginsOutside Digit rest → IsNumber (decimal n ++ rest) n rest
@@ -145,13 +146,9 @@ unfolding repeated
 all_repeated Q zero l more q h = h
 all_repeated Q (suc c) l more q h = (q, all_repeated Q c l more q h)
 
--- ---- letters
-from_zero : (i : ℕ) → 0 + i ≡ i
-from_zero i = omega arith
-
 module _ (ind dep : List ℕ) (distinct : AreDistinct [] ind) where
   front_named : (i : ℕ) → i < length ind → (l : ℕ) × (name_at (ind ++ dep) i ≡ l ∷ []) × (is_in Letter l ≡ true) × (place_of ind l ≡ Some i)
-  front_named i lt = let n = named_at [] ind distinct i lt in (n.letter, name_in_front ind dep i lt ∙ n.spelled, n.is_letter, n.named ∙ ap Some (from_zero i))
+  front_named i lt = let n = named_at [] ind distinct i lt in (n.letter, name_in_front ind dep i lt ∙ n.spelled, n.is_letter, n.named ∙ ap Some (nat_idl i))
 
   letters_all : (Q : ℕ → Type 0) → ((l i : ℕ) → is_in Letter l ≡ true → place_of ind l ≡ Some i → Q l) → (i : ℕ) (J : List ℕ) → i + length J ≤ length ind → AllByRecursion Q (letters_from (ind ++ dep) i J)
   unfolding letters_from
@@ -180,7 +177,7 @@ module _ (ind dep : List ℕ) (distinct : AreDistinct [] ind) where
       let l = length-append xs (c ∷ []) in
       ap (λ t. counts_from ind (xs ++ 0 ∷ zs) (repeated c t ++ more)) n.1
       ∙ counts_repeated ind xs zs more n.0 0 c (n.3 ∙ ap Some (sym at))
-      ∙ ap (λ k. counts_from ind (xs ++ k ∷ zs) more) (from_zero c)
+      ∙ ap (λ k. counts_from ind (xs ++ k ∷ zs) more) (nat_idl c)
       ∙ ap (λ k. counts_from ind k more) (sym (append_assoc xs (c ∷ []) zs))
       ∙ letters_counts (i + 1) J (xs ++ c ∷ []) ys (omega arith) (omega arith) ∙ append_assoc xs (c ∷ []) (J ++ ys)
 
@@ -213,7 +210,7 @@ module _ (S : Space) (ind dep : List ℕ) (p : S.p ≡ length ind) (q : S.q ≡ 
         word = name_at (ind ++ dep) i;
         front = no_blanks (name_at (ind ++ dep) i ++ rest);
         ended = ended;
-        name = inl (record { letter = n.letter; place = i; spelled = n.spelled; is_letter = n.is_letter; named = n.named ∙ ap Some (from_zero i); means = refl }, no_line);
+        name = inl (record { letter = n.letter; place = i; spelled = n.spelled; is_letter = n.is_letter; named = n.named ∙ ap Some (nat_idl i); means = refl }, no_line);
       }
 
   derivative_is : (a : ℕ) (J rest : List ℕ) → a < length dep → length J ≡ length ind → 1 ≤ order J → order J ≤ 6 → BeginsOutside Letter rest
@@ -232,7 +229,7 @@ module _ (S : Space) (ind dep : List ℕ) (p : S.p ≡ length ind) (q : S.q ≡ 
           by = by;
           spelled = ap (λ t. t ++ 95 ∷ by) (ap (λ k. name_at (ind ++ dep) (k + a)) p ∙ ap (take 1) (drop_behind ind dep a) ∙ n.spelled);
           is_letter = n.is_letter;
-          named = ap (λ l. place_of l n.letter) drop_names ∙ n.named ∙ ap Some (from_zero a);
+          named = ap (λ l. place_of l n.letter) drop_names ∙ n.named ∙ ap Some (nat_idl a);
           are_letters = letters_all ind dep distinct (λ l. is_in Letter l ≡ true) (λ l i h k. h) 0 J (omega arith);
           independent = subst (λ ns. AllByRecursion (λ x. IsSome (place_of ns x)) by) (sym take_names) (letters_all ind dep distinct (λ l. IsSome (place_of ind l)) (λ l i h k. subst IsSome (sym k) refl) 0 J (omega arith));
           some = omega arith;

@@ -59,7 +59,7 @@ read_negated : (es : List (Monomial × ℤ)) → polynomial_of (read_terms true 
 read_negated [] = nothing ∙ polynomial_of-times unit (negsuc 0) []
 read_negated (e ∷ es) = ap polynomial_of (sym (times_negated (e ∷ es))) ∙ polynomial_of-times unit (negsuc 0) (e ∷ es)
 
-twice_less : (a b : WholePolynomial) → a +ᴾ negᴾ (a +ᴾ negᴾ b) ≡ b
+pub twice_less : (a b : WholePolynomial) → a +ᴾ negᴾ (a +ᴾ negᴾ b) ≡ b
 twice_less a b = solve polynomial_ring (listed a (a ∷ b ∷ [])) (v 0 ⊕ ⊖ (v 0 ⊕ ⊖ (v 1))) (v 1) refl
 
 -- the lead minus the right side is the polynomial again

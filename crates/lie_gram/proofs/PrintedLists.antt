@@ -12,7 +12,7 @@ entries-push : (es : List (Monomial × ℤ)) (m : Monomial) (z : ℤ) → entrie
 entries-push [] m z = refl
 entries-push (e ∷ es) m z = ap (λ l. (e.0, e.1) ∷ l) (entries-push es m z)
 
-terms-push : {B : Type 0} (g : B → PrintedTerm) (old new : List Term) (t : Term) (ys : List B) (y : B) → printed t ≡ g y → new ≡ old ++ t ∷ [] → map printed old ≡ map g ys → map printed new ≡ map g (ys ++ y ∷ [])
+pub terms-push : {B : Type 0} (g : B → PrintedTerm) (old new : List Term) (t : Term) (ys : List B) (y : B) → printed t ≡ g y → new ≡ old ++ t ∷ [] → map printed old ≡ map g ys → map printed new ≡ map g (ys ++ y ∷ [])
 terms-push g old new t ys y is pushed so_far =
     ap (map printed) pushed ∙ map-append printed old (t ∷ []) ∙ ap₂ (λ (l : List PrintedTerm) (s : PrintedTerm). l ++ s ∷ []) so_far is ∙ sym (map-append g ys (y ∷ []))
 

@@ -8,10 +8,10 @@ use Rattle.lie_jet.specs.Jets.{coordinate_of, IsJet, IsSmall}
 use Rattle.lie_jet.specs.declared.jet.Jet.{Jet}
 use Rattle.lie_gram.specs.Printing.{name_at, coordinate_text, variable_text}
 
-less_test : (a b : ℕ) → a < b → ltb a b ≡ true
+pub less_test : (a b : ℕ) → a < b → ltb a b ≡ true
 less_test a b h = grind (arith, nat_tests, h)
 
-not_less_test : (a b : ℕ) → b ≤ a → ltb a b ≡ false
+pub not_less_test : (a b : ℕ) → b ≤ a → ltb a b ≡ false
 not_less_test a b h = grind (arith, nat_tests, h)
 
 -- a number with a coordinate

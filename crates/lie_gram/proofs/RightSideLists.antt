@@ -60,7 +60,3 @@ pub right_terms : {E : Type 0} (lead : Monomial) (p : WholePolynomial) (l : List
     → IfOk r (λ ts. map printed ts.items ≡ plain_terms (turned_terms (Some lead) l)) → IfOk r (λ ts. map printed ts.items ≡ polynomial_terms (term lead (pos 1) +ᴾ negᴾ p))
 right_terms lead p l (Ok ts) is h = h ∙ ap plain_terms (ap (turned_terms (Some lead)) is ∙ sym (list-right lead p))
 right_terms lead p l (Err e) is h = tt
-
-pub entries_same : (es : List (Monomial × ℤ)) → entries (λ z. z) es ≡ es
-entries_same [] = refl
-entries_same (e ∷ es) = ap (λ l. e ∷ l) (entries_same es)

@@ -26,7 +26,7 @@ within_any : {A B : Type 0} (m : ℕ) (r : Result A Stop) (f : A → Result (B �
 within_any m (Ok x) f k = k x
 within_any m (Err e) f k = tt
 
-within_if : {A : Type 0} (n : ℕ) (b : Bool) (r s : Result (A × List ℕ) Stop) → Within n r → Within n s → Within n (if b then r else s)
+pub within_if : {A : Type 0} (n : ℕ) (b : Bool) (r s : Result (A × List ℕ) Stop) → Within n r → Within n s → Within n (if b then r else s)
 within_if n true r s h k = h
 within_if n false r s h k = k
 

@@ -17,11 +17,6 @@ use Rattle.lie_ring.specs.Ratios.{signed}
 use Rattle.lie_gram.specs.Meaning.{size_of}
 use Rattle.lie_gram.specs.Sizes.{pairs_cmp, key_cmp, size_in, AreSizes}
 
-pub unsigned_abs-signed : (negative : Bool) (n : ℕ) → unsigned_abs (signed negative n) ≡ n
-unsigned_abs-signed false n = refl
-unsigned_abs-signed true zero = refl
-unsigned_abs-signed true (suc n) = refl
-
 pub size_of-push : (m k : Monomial) (z : ℤ) (ts : List (Monomial × ℤ)) → size_of m (ts ++ (k, z) ∷ []) ≡ size_of m ts + cond (eq_by_cmp monomial_cmp m k) (unsigned_abs z) 0
 size_of-push m k z [] = omega arith
 size_of-push m k z (t ∷ ts) = let e = size_of-push m k z ts in omega arith

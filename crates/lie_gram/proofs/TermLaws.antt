@@ -22,8 +22,9 @@ use Rattle.lie_gram.proofs.Blanks.{bind_then, ok_is, after_twice, after_outside,
 use Rattle.lie_gram.proofs.NumberLaws.{literal_at-is, is-literal_at, all_digits}
 use Rattle.lie_gram.proofs.CoordinateLaws.{coordinate_front}
 use Rattle.lie_gram.proofs.ExponentSteps.{unit_small}
-use Rattle.lie_gram.proofs.SizeSteps.{unsigned_abs-signed, size_of-push}
+use Rattle.lie_gram.proofs.SizeSteps.{size_of-push}
 use Rattle.lie_gram.proofs.FactorLaws.{small_before, factor_at-is, is-factor_at, factor_at-blanks, factors_at-is, is-factors_at}
+use Rattle.lie_ring.proofs.Ratios.{unsigned_abs-signed}
 
 -- ---- the first factor
 pub literal_at-blanks : (text : List ℕ) → literal_at (after_blanks text) ≡ literal_at text

@@ -37,7 +37,7 @@ leaves_bind : {A B S : Type 0} (n m : ℕ) (r : Result (A × List ℕ) Stop) (f 
 leaves_bind n m (Ok x) f h k = k x h
 leaves_bind n m (Err e) f h k = tt
 
-leaves_if : {A S : Type 0} (n : ℕ) (b : Bool) (r s : Result (Turn S (A × List ℕ)) Stop) → TurnLeaves n r → TurnLeaves n s → TurnLeaves n (if b then r else s)
+pub leaves_if : {A S : Type 0} (n : ℕ) (b : Bool) (r s : Result (Turn S (A × List ℕ)) Stop) → TurnLeaves n r → TurnLeaves n s → TurnLeaves n (if b then r else s)
 leaves_if n true r s h k = h
 leaves_if n false r s h k = k
 

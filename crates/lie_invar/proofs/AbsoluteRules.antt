@@ -6,7 +6,6 @@ use Rattle.lie_math.specs.Limits.{absolute}
 use Rattle.lie_math.specs.Polynomial.{WholePolynomial}
 use Rattle.lie_geometry.specs.Coordinates.{Space, number}
 use Rattle.lie_geometry.specs.SolvedEquations.{SolvedEquation, reduced_by}
-use Rattle.lie_prolong.proofs.Absolutes.{absolute-absolute}
 use Rattle.lie_jet.specs.Jets.{coordinate_of, IsJet}
 use Rattle.lie_solved.specs.declared.solved.LeadRule.{LeadRule}
 use Rattle.lie_solved.specs.Equations.{HaveJets}
@@ -14,8 +13,8 @@ use Rattle.lie_solved.specs.SolvedForms.{solved_equation, solved_equations}
 use Rattle.std.specs.List.{AllByRecursion as Every}
 use Rattle.lie_invar.specs.Bulks.{absolute_equation, absolute_equations, reduction_bulk_by}
 use Rattle.lie_invar.specs.Reductions.{CanReduce, IsAbsoluteRule}
-use Rattle.lie_invar.proofs.Factors.{taken}
-use Rattle.lie_poly.proofs.TimesSteps.{all_taken}
+use Rattle.lie_jet.proofs.Absolutes.{absolute_twice}
+use Rattle.lie_ring.proofs.Fronts.{all_taken, take_more}
 
 -- the second rules are the first with absolute values, one by one
 abbrev pub AreAbsoluteRules : List LeadRule → List LeadRule → Type 0
@@ -31,7 +30,7 @@ rules-append (x ∷ rs) [] r s h k = absurd h
 rules-append (x ∷ rs) (y ∷ ss) r s h k = (h.0, rules-append rs ss r s h.1 k)
 
 pub rules_more : (rs ss new : List LeadRule) (i : ℕ) (r s : LeadRule) → i < length rs → r ≡ get_or rs i r → AreAbsoluteRules (take i rs) ss → IsAbsoluteRule r s → new ≡ ss ++ s ∷ [] → AreAbsoluteRules (take (i + 1) rs) new
-rules_more rs ss new i r s lt is h k e = subst (λ xs. AreAbsoluteRules xs new) (sym (taken rs i r lt is)) (subst (AreAbsoluteRules (take i rs ++ r ∷ [])) (sym e) (rules-append (take i rs) ss r s h k))
+rules_more rs ss new i r s lt is h k e = subst (λ xs. AreAbsoluteRules xs new) (take_more rs i r lt is) (subst (AreAbsoluteRules (take i rs ++ r ∷ [])) (sym e) (rules-append (take i rs) ss r s h k))
 
 same_equation : (S : Space) (r s : LeadRule) → IsAbsoluteRule r s → solved_equation S s ≡ absolute_equation (solved_equation S r)
 same_equation S r s h = λ i. record { lead = number S (coordinate_of S (h.lead i)); factor = h.factor i; right = h.right i }
@@ -66,8 +65,8 @@ pushed new more old b e h = e ∙ ap (λ t. if t then more else old) h
 -- ---- absolute values of absolute values
 pub absolute-equations : (rs : List SolvedEquation) → absolute_equations (absolute_equations rs) ≡ absolute_equations rs
 absolute-equations [] = refl
-absolute-equations (r ∷ rs) = ap₂ (λ x xs. record { lead = r.lead; factor = pos (unsigned_abs r.factor); right = x } ∷ xs) (absolute-absolute r.right) (absolute-equations rs)
+absolute-equations (r ∷ rs) = ap₂ (λ x xs. record { lead = r.lead; factor = pos (unsigned_abs r.factor); right = x } ∷ xs) (absolute_twice r.right) (absolute-equations rs)
 
 -- the bulk of the absolute values is their reduction
 pub bulk_of_sizes : (rs : List SolvedEquation) (e : ℕ → ℕ) (P : WholePolynomial) → reduction_bulk_by (absolute_equations rs) e (absolute P) ≡ reduction_bulk_by rs e P
-bulk_of_sizes rs e P = ap₂ (λ xs p. reduced_by xs e p) (absolute-equations rs) (absolute-absolute P)
+bulk_of_sizes rs e P = ap₂ (λ xs p. reduced_by xs e p) (absolute-equations rs) (absolute_twice P)

@@ -19,9 +19,9 @@ use Rattle.lie_jet.proofs.TotalSteps.{size_times}
 use Rattle.lie_prolong.proofs.Absolutes.{IsBounded, bounded_plain, bounded_covered, bounded_absolute, absolute_bounded, bounded_sum, bounded_none, bounded_signed, absolute-nonneg}
 use Rattle.lie_prolong.proofs.Positive.{IsPositive, bounded_term, positive_bounded}
 use Rattle.lie_invar.specs.Applications.{sides, applied_to, sizes_of}
-use Rattle.lie_invar.proofs.Factors.{taken}
 use Rattle.lie_invar.proofs.PowerSteps.{times_one, absolute_proper, absolute_plain}
 use Rattle.lie_invar.proofs.Products.{times-none, bounded_times, bounded_itself, cause_times}
+use Rattle.lie_ring.proofs.Fronts.{take_more}
 
 pub right_none : (p q : WholePolynomial) → q ≡ 0ᴾ → p +ᴾ q ≡ p
 right_none p q e = ap (λ x. p +ᴾ x) e ∙ plus_comm terms p 0ᴾ ∙ plus_idl terms p
@@ -98,7 +98,7 @@ applied-append [] ds P = sym (plus_idl terms (applied_to ds P))
 applied-append (c ∷ cs) ds P = ap (λ q. c.1 *ᴾ partial c.0 P +ᴾ q) (applied-append cs ds P) ∙ sym (plus_assoc terms (c.1 *ᴾ partial c.0 P) (applied_to cs P) (applied_to ds P))
 
 pub applied_more : (cs : List (ℕ × WholePolynomial)) (i : ℕ) (c : ℕ × WholePolynomial) (P : WholePolynomial) → i < length cs → c ≡ get_or cs i c → applied_to (take (i + 1) cs) P ≡ applied_to (take i cs) P +ᴾ c.1 *ᴾ partial c.0 P
-applied_more cs i c P lt is = ap (λ xs. applied_to xs P) (taken cs i c lt is) ∙ applied-append (take i cs) (c ∷ []) P ∙ ap (λ q. applied_to (take i cs) P +ᴾ q) (right_none (c.1 *ᴾ partial c.0 P) 0ᴾ refl)
+applied_more cs i c P lt is = ap (λ xs. applied_to xs P) (sym (take_more cs i c lt is)) ∙ applied-append (take i cs) (c ∷ []) P ∙ ap (λ q. applied_to (take i cs) P +ᴾ q) (right_none (c.1 *ᴾ partial c.0 P) 0ᴾ refl)
 
 module _ (w : ℕ) (c s : ℤ) (R : WholePolynomial) where
   -- the sum of the absolute values of the parts
@@ -111,7 +111,7 @@ module _ (w : ℕ) (c s : ℤ) (R : WholePolynomial) where
   sized-append (k ∷ cs) ds = ap (λ q. absolute (k.1 *ᴾ partial k.0 (sides w c s R)) +ᴾ q) (sized-append cs ds) ∙ sym (plus_assoc terms (absolute (k.1 *ᴾ partial k.0 (sides w c s R))) (sized cs) (sized ds))
 
   pub sized_more : (cs : List (ℕ × WholePolynomial)) (i : ℕ) (k : ℕ × WholePolynomial) → i < length cs → k ≡ get_or cs i k → sized (take (i + 1) cs) ≡ sized (take i cs) +ᴾ absolute (k.1 *ᴾ partial k.0 (sides w c s R))
-  sized_more cs i k lt is = ap sized (taken cs i k lt is) ∙ sized-append (take i cs) (k ∷ []) ∙ ap (λ q. sized (take i cs) +ᴾ q) (right_none (absolute (k.1 *ᴾ partial k.0 (sides w c s R))) 0ᴾ refl)
+  sized_more cs i k lt is = ap sized (sym (take_more cs i k lt is)) ∙ sized-append (take i cs) (k ∷ []) ∙ ap (λ q. sized (take i cs) +ᴾ q) (right_none (absolute (k.1 *ᴾ partial k.0 (sides w c s R))) 0ᴾ refl)
 
   part_bounded : unsigned_abs s ≡ 1 → (k : ℕ × WholePolynomial) → IsBounded (absolute (k.1 *ᴾ partial k.0 (sides w c s R))) (absolute k.1 *ᴾ partial k.0 (bulk_sides w c R))
   part_bounded u k = absolute_bounded _ _ (bounded_times k.1 (partial k.0 (sides w c s R)) (absolute k.1) (partial k.0 (bulk_sides w c R)) (bounded_absolute k.1) (slope_bounded k.0 w c s R u))

@@ -14,11 +14,12 @@ use Rattle.lie_geometry.specs.Coordinates.{Space, coordinate, coordinates_up_to}
 use Rattle.lie_geometry.specs.Invariance.{greatest_order, applied_prolongation}
 use Rattle.lie_geometry.specs.Prolongation.{coefficient_at}
 use Rattle.lie_geometry.specs.SolvedEquations.{SolvedEquation, difference}
-use Rattle.lie_prolong.proofs.Absolutes.{coefficient-absolute, absolute-absolute}
 use Rattle.lie_invar.proofs.Differences.{absolute_sides}
 use Rattle.lie_invar.specs.Applications.{sides, applied_to, sizes_of, numbered_coefficients}
 use Rattle.lie_invar.specs.Bulks.{application_bulk}
 use Rattle.lie_invar.proofs.ApplicationSteps.{applied-append, right_none}
+use Rattle.lie_jet.proofs.FormBounds.{coefficient_absolute}
+use Rattle.lie_jet.proofs.Absolutes.{absolute_twice}
 
 -- ---- sums over numbered coefficients
 numbered_sum : (C : ℕ → WholePolynomial) (P : WholePolynomial) (n : ℕ) → applied_to (map (λ w. (w, C w)) (range_with_len 0 n)) P ≡ sum_of (numbers_below n) (λ w. C w *ᴾ partial w P)
@@ -50,13 +51,13 @@ module _ (S : Space) (rs : List SolvedEquation) (V : ℕ → WholePolynomial) (r
 
 -- ---- the coefficients and the equation with absolute values
 pub free_size : (w l : ℕ) (R q : WholePolynomial) → q ≡ absolute R → w ≡ l → FreeOf l R → FreeOf w q
-free_size w l R q e f h = λ m n. ap (exponent m) f ∙ h m (λ z. n (ap (λ p. coefficient p m) e ∙ coefficient-absolute R m ∙ ap (λ c. pos (unsigned_abs c)) z))
+free_size w l R q e f h = λ m n. ap (exponent m) f ∙ h m (λ z. n (ap (λ p. coefficient p m) e ∙ coefficient_absolute R m ∙ ap (λ c. pos (unsigned_abs c)) z))
 
 sizes-sizes : (cs : List (ℕ × WholePolynomial)) → sizes_of (sizes_of cs) ≡ sizes_of cs
 sizes-sizes [] = refl
-sizes-sizes (c ∷ cs) = ap₂ (λ p xs. (c.0, p) ∷ xs) (absolute-absolute c.1) (sizes-sizes cs)
+sizes-sizes (c ∷ cs) = ap₂ (λ p xs. (c.0, p) ∷ xs) (absolute_twice c.1) (sizes-sizes cs)
 
 pub bulk_same : (cs sl : List (ℕ × WholePolynomial)) (w l : ℕ) (c sc : ℤ) (R sr : WholePolynomial) → sl ≡ sizes_of cs → w ≡ l → sc ≡ pos (unsigned_abs c) → sr ≡ absolute R
     → applied_to (sizes_of sl) (sides w (pos (unsigned_abs sc)) (pos 1) (absolute sr)) ≡ applied_to (sizes_of cs) (sides l (pos (unsigned_abs c)) (pos 1) (absolute R))
 bulk_same cs sl w l c sc R sr e f g h =
-    ap₂ applied_to (ap sizes_of e ∙ sizes-sizes cs) (ap (λ v. sides v (pos (unsigned_abs sc)) (pos 1) (absolute sr)) f ∙ ap₂ (λ z p. sides l (pos (unsigned_abs z)) (pos 1) (absolute p)) g h ∙ ap (λ p. sides l (pos (unsigned_abs c)) (pos 1) p) (absolute-absolute R))
+    ap₂ applied_to (ap sizes_of e ∙ sizes-sizes cs) (ap (λ v. sides v (pos (unsigned_abs sc)) (pos 1) (absolute sr)) f ∙ ap₂ (λ z p. sides l (pos (unsigned_abs z)) (pos 1) (absolute p)) g h ∙ ap (λ p. sides l (pos (unsigned_abs c)) (pos 1) p) (absolute_twice R))

@@ -17,16 +17,16 @@ use Rattle.lie_math.proofs.TermWise.{derived_list, polynomial_of-derived, absolu
 use Rattle.lie_geometry.specs.SymbolicProlongation.{forms_over}
 use Rattle.lie_ring.specs.Causes.{IsCause}
 use Rattle.lie_ring.specs.declared.failures.PolyFail.{PolyFail}
-use Rattle.lie_poly.proofs.TimesSteps.{all_taken}
 use Rattle.lie_jet.specs.Derivatives.{derivative_of, derivative_terms}
 use Rattle.lie_jet.specs.FormLimits.{IsCoefficientCause}
 use Rattle.lie_jet.specs.declared.derivative.Der.{Der}
 use Rattle.lie_jet.proofs.DerivativeLists.{length_map}
 use Rattle.lie_jet.proofs.FormBounds.{coefficient_absolute, IsBound, plain_bound, absolute_bound, at, IsFormBound, IsPlain, cause_bound, form_trans, form_plain, form_sum, form_one, form_first, over_bound, fewer_bound, over_entries, entries_bound, front_bound, sizes_of, list_sizes, form_sizes, sizes_bound}
-use Rattle.lie_jet.proofs.FormSteps.{part_cause, put_cause, entries_step}
+use Rattle.lie_jet.proofs.FormSteps.{part_cause, put_cause, entries_step, over_sizes}
 use Rattle.lie_invar.specs.AppliedForms.{applied_forms, applied_sizes}
 use Rattle.lie_invar.proofs.Bounds.{product_bound, partial_bound}
 use Rattle.lie_invar.proofs.Products.{nonneg_times, cause_times}
+use Rattle.lie_ring.proofs.Fronts.{all_taken}
 
 -- ---- a product with one term of a form
 abbrev pub times_term : WholePolynomial → Derivative → WholePolynomial → LinearForm
@@ -43,11 +43,6 @@ product_cause fail E d s a cause = part_cause fail E (times_size s d a) d (absol
 
 pub product_put_cause : (fail : PolyFail) (E : LinearForm) (d : Derivative) (s a p : WholePolynomial) → p ≡ s *ᴾ a → IsCause fail (absolute (at E d) +ᴾ absolute p) → IsCoefficientCause fail (each_coefficient absolute E +ᶠ times_size s d a)
 product_put_cause fail E d s a p e cause = put_cause fail E d p (absolute s *ᴾ absolute a) (subst (λ q. IsBound q (absolute s *ᴾ absolute a)) (sym e) (product_bound s a)) cause
-
--- ---- the terms of a form, one by one
-over_sizes : (φ : Derivative → WholePolynomial → LinearForm) (es : List (Derivative × WholePolynomial)) → over_entries φ (sizes_of es) ≡ over_entries (λ d a. φ d (absolute a)) es
-over_sizes φ [] = refl
-over_sizes φ (e ∷ es) = ap (λ E. φ e.0 (absolute e.1) +ᶠ E) (over_sizes φ es)
 
 pub times_sizes : (s : WholePolynomial) (F : LinearForm) → times_form s (each_coefficient absolute F) ≡ over_entries (λ d a. form_term d (s *ᴾ absolute a)) F.list
 times_sizes s F = ap (over_entries (times_term s)) (list_sizes F) ∙ over_sizes (times_term s) F.list

@@ -12,10 +12,10 @@ use Rattle.lie_math.specs.Polynomial.{WholePolynomial}
 use Rattle.lie_systems.specs.Triples.{Triple, triples, triples_in, triples_with}
 use Rattle.lie_jet.specs.declared.derivative.Der.{Der}
 use Rattle.lie_jet.specs.Derivatives.{derivative_of, derivative_terms}
-use Rattle.lie_lin.proofs.DividedForms.{take_all}
-use Rattle.lie_lin.proofs.Forms.{triples_in-append}
 use Rattle.lie_invar.specs.declared.buckets.Bucket.{Bucket}
 use Rattle.lie_invar.specs.Parts.{monomials_of, bucket_at, triples_at, split_triple, split_triples, HaveMore, AreBucketsOf}
+use Rattle.lie_jet.proofs.FormParts.{triples_in-append}
+use Rattle.lie_ring.proofs.Fronts.{all_taken}
 
 triples_at-append : (μ : Monomial) (ss ts : List (Monomial × Triple)) → triples_at μ (ss ++ ts) ≡ triples_at μ ss ++ triples_at μ ts
 triples_at-append μ [] ts = refl
@@ -56,7 +56,7 @@ module _ (A : ℕ → Bool) where
 
   -- all terms
   pub terms_all : (d : Derivative) (es ps : List (Monomial × ℤ)) (i : ℕ) (os bs : List Bucket) → length es ≤ i → es ≡ ps → HaveMore (split_triples A (triples_with d (take i es))) os bs → HaveMore (split_triples A (triples_with d ps)) os bs
-  terms_all d es ps i os bs le e h = subst (λ xs. HaveMore (split_triples A (triples_with d xs)) os bs) (take_all es i le ∙ e) h
+  terms_all d es ps i os bs le e h = subst (λ xs. HaveMore (split_triples A (triples_with d xs)) os bs) (all_taken es i le ∙ e) h
 
   -- one more derivative
   pub derivative_more : (es : List (Der × WholePolynomial)) (i : ℕ) (e : Der × WholePolynomial) (os bs cs : List Bucket) → i < length es → e ≡ get_or es i e → HaveMore (split_triples A (triples_in (derivative_terms (take i es)))) os bs → HaveMore (split_triples A (triples_with (derivative_of e.0) e.1.list)) bs cs
@@ -72,5 +72,5 @@ module _ (A : ℕ → Bool) where
   pub buckets_are : (E : LinearForm) (es : List (Der × WholePolynomial)) (i : ℕ) (bs : List Bucket) → length es ≤ i → derivative_terms es ≡ E.list → HaveMore (split_triples A (triples_in (derivative_terms (take i es)))) [] bs → AreBucketsOf (split_triples A (triples E)) bs
   buckets_are E es i bs le e h = record {
     ordered = h.ordered;
-    same = λ μ. h.same μ ∙ ap (λ xs. triples_at μ (split_triples A (triples_in xs))) (ap derivative_terms (take_all es i le) ∙ e);
+    same = λ μ. h.same μ ∙ ap (λ xs. triples_at μ (split_triples A (triples_in xs))) (ap derivative_terms (all_taken es i le) ∙ e);
   }

@@ -10,7 +10,6 @@ use Rattle.lie_geometry.specs.SolvedEquations.{SolvedEquation}
 use Rattle.lie_geometry.specs.SymbolicProlongation.{symbolic_application}
 use Rattle.lie_systems.specs.Bulk.{IsWithinLimits}
 use Rattle.lie_jet.specs.FormLimits.{IsFormCause}
-use Rattle.lie_poly.proofs.TimesSteps.{all_taken}
 use Rattle.lie_prolong.specs.JetLists.{HoldsUpTo}
 use Rattle.lie_prolong.specs.SymbolicBulks.{symbolic_bulk_at}
 use Rattle.lie_ring.specs.declared.failures.PolyFail.{PolyFail}
@@ -22,6 +21,7 @@ use Rattle.lie_invar.specs.Bulks.{absolute_equation, absolute_equations}
 use Rattle.lie_invar.specs.Conditions.{condition_of, conditions_of, IsConditionWithin, IsConditionCause, AreFormActionsWithin, IsFormActionCause}
 use Rattle.lie_invar.specs.Openings.{coefficient, application, reduction}
 use Rattle.lie_invar.specs.SymbolicBulks.{symbolic_application_bulk, symbolic_reduction_bulk}
+use Rattle.lie_ring.proofs.Fronts.{all_taken}
 
 -- the rule with absolute values at a place
 pub sized_at : (S : Space) (rules sized : List LeadRule) (i : ℕ) (r q : LeadRule) → solved_equations S sized ≡ absolute_equations (solved_equations S rules) → i < length rules → r ≡ get_or rules i r → q ≡ get_or sized i q → solved_equation S q ≡ absolute_equation (solved_equation S r)

@@ -23,6 +23,7 @@ use Rattle.lie_prolong.specs.JetLists.{AreValuesUpTo}
 use Rattle.lie_prolong.proofs.JetLists.{jets_count, coordinate_at}
 use Rattle.lie_prolong.proofs.SymbolicSteps.{unknown_within}
 use Rattle.lie_invar.specs.AppliedForms.{AreCoordinateForms}
+use Rattle.lie_invar.proofs.NumberedCoefficients.{independent_at}
 
 -- ---- an unknown is past no limit
 unknown_order : (v : ℕ) → Any (λ (t : Triple). 64 < order t.0.counts) (triples (unknown v)) → ⊥
@@ -38,11 +39,6 @@ unknown_starved (Past Order) v h = unknown_order v h
 unknown_starved (Past Unknowns) v h = h
 unknown_starved (Past Width) v h = h
 unknown_starved NoMemory v h = tt
-
--- ---- the forms by their numbers
-independent_at : (S : Space) (w : ℕ) → w < S.p → coordinate S w ≡ independent w
-unfolding coordinate
-independent_at S w h = ap (λ t. cond t (independent w) (let r : ℕ = w - S.p in let n : ℕ = seek (jets_below S) r r in nth_of_order S n (r - jets_below S n))) (lt-ltb w S.p h)
 
 module _ (S : Space) (n : ℕ) (vs : List (Jet × LinearForm)) (are : AreValuesUpTo S n (symbolic_coefficient_at S) vs) (all : List LinearForm) (put : all ≡ map unknown (range_with_len 0 S.p) ++ map (λ v. v.1) vs) where
   first_count : length (map unknown (range_with_len 0 S.p)) ≡ S.p

@@ -16,10 +16,7 @@ use Rattle.lie_geometry.specs.SolvedEquations.{SolvedEquation, difference}
 use Rattle.lie_jet.proofs.FormBounds.{coefficient_absolute}
 use Rattle.lie_prolong.proofs.SymbolicMultiples.{signed_is}
 use Rattle.lie_invar.specs.Applications.{sides}
-
--- ---- the coefficients of the difference
-single_exponent : (w : ℕ) → exponent (single w) w ≡ 1
-single_exponent w = value-term powers w 1 w ∙ ap (λ t. cond (is_eq t) 1 0) (tied_itself Rattle.std.specs.Cmp.nat_cmp_total w)
+use Rattle.lie_solved.proofs.LinearTerms.{exponent_single}
 
 negative_coefficient : (p : WholePolynomial) (m : Monomial) → coefficient (negᴾ p) m +ℤ coefficient p m ≡ pos 0
 negative_coefficient p m = sym (value-plus terms (negᴾ p) p m) ∙ ap (λ q. coefficient q m) (negᴾ_l p) ∙ value-none terms m
@@ -38,7 +35,7 @@ module _ (r : SolvedEquation) (free : FreeOf r.lead r.right) where
     where
       by : (t : Bool) → Rattle.lie_math.specs.Integer.is_zero_int (coefficient r.right (single r.lead)) ≡ t → coefficient r.right (single r.lead) ≡ pos 0
       by true e = Rattle.lie_math.specs.Integer.int_nil _ e
-      by false e = absurd (one (sym (single_exponent r.lead) ∙ free (single r.lead) (λ z. true≢false (sym (ap Rattle.lie_math.specs.Integer.is_zero_int z) ∙ e))))
+      by false e = absurd (one (sym (exponent_single r.lead) ∙ free (single r.lead) (λ z. true≢false (sym (ap Rattle.lie_math.specs.Integer.is_zero_int z) ∙ e))))
         where
           one : ◌≡◌ {A = ℕ} 1 0 → ⊥
           one q = omega arith

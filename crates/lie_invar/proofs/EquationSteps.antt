@@ -21,7 +21,6 @@ use Rattle.lie_systems.specs.Leads.{IsLead}
 use Rattle.lie_systems.specs.Normalised.{primitive}
 use Rattle.lie_systems.specs.Triples.{triples, sum_of_triples}
 use Rattle.lie_lin.specs.Forms.{triples_of}
-use Rattle.lie_lin.proofs.DividedForms.{take_all}
 use Rattle.lie_invar.specs.declared.buckets.Bucket.{Bucket}
 use Rattle.lie_invar.specs.Equations.{AreEquationsOf, IsNormalisedPart, IsPartOf, part_of_form}
 use Rattle.lie_invar.specs.Openings.{triples_in_all}
@@ -30,6 +29,7 @@ use Rattle.lie_invar.proofs.PartForms.{sum_at}
 use Rattle.lie_invar.proofs.PartLimits.{part_within}
 use Rattle.lie_invar.proofs.SortedLists.{contains_nothing, every_of}
 use Rattle.lie_invar.proofs.SortedPlaces.{adds_same, adds_both, adds_present, every_at, every_in, turned_greater}
+use Rattle.lie_ring.proofs.Fronts.{all_taken, take_more}
 
 -- ---- some element of a list
 module _ {X : Type 0} (P : X → Type 0) where
@@ -65,13 +65,10 @@ module _ {X : Type 0} (P : X → Type 0) where
   any_cases : (xs : List X) (y : X) → Any P (xs ++ y ∷ []) → Any P xs ⊎ P y
   any_cases xs y a = any_before xs (y ∷ []) a.0 a.1 y refl a.2 a.3 a.4
 
-taken : {X : Type 0} (xs : List X) (i : ℕ) (x : X) → i < length xs → x ≡ get_or xs i x → take (i + 1) xs ≡ take i xs ++ x ∷ []
-taken xs i x lt is = ap (λ n. take n xs) (add-one i) ∙ take-suc xs i x lt ∙ ap (λ y. take i xs ++ y ∷ []) (sym is)
-
 -- one more of a list of predicates is added
 pub adds_more : {X : Type 0} (Q : X → LinearForm → Type 0) (xs : List X) (i : ℕ) (x : X) (es fs gs : List LinearForm) → i < length xs → x ≡ get_or xs i x → Adds (λ e. Any (λ y. Q y e) (take i xs)) es fs → Adds (Q x) fs gs → Adds (λ e. Any (λ y. Q y e) (take (i + 1) xs)) es gs
 adds_more Q xs i x es fs gs lt is h k =
-    subst (λ ys. Adds (λ e. Any (λ y. Q y e) ys) es gs) (sym (taken xs i x lt is))
+    subst (λ ys. Adds (λ e. Any (λ y. Q y e) ys) es gs) (take_more xs i x lt is)
     (adds_same (λ e. Any (λ y. Q y e) (take i xs) ⊎ Q x e) (λ e. Any (λ y. Q y e) (take i xs ++ x ∷ [])) es gs
     (λ e s. any_first (λ y. Q y e) (take i xs) x s) (λ e a. any_cases (λ y. Q y e) (take i xs) x a)
     (adds_both (λ e. Any (λ y. Q y e) (take i xs)) (Q x) es fs gs h k))
@@ -80,7 +77,7 @@ pub adds_none : {X : Type 0} (Q : X → LinearForm → Type 0) (es : List Linear
 adds_none Q es s = adds_present (λ e. Any (λ y. Q y e) []) es s (λ e a. absurd (any_nothing (λ y. Q y e) a))
 
 pub adds_all : {X : Type 0} (Q : X → LinearForm → Type 0) (xs : List X) (i : ℕ) (es fs : List LinearForm) → length xs ≤ i → Adds (λ e. Any (λ y. Q y e) (take i xs)) es fs → Adds (λ e. Any (λ y. Q y e) xs) es fs
-adds_all Q xs i es fs le h = subst (λ ys. Adds (λ e. Any (λ y. Q y e) ys) es fs) (take_all xs i le) h
+adds_all Q xs i es fs le h = subst (λ ys. Adds (λ e. Any (λ y. Q y e) ys) es fs) (all_taken xs i le) h
 
 pub no_equations_sorted : IsStrictlySortedBy equation_cmp []
 unfolding IsStrictlySortedBy
@@ -183,7 +180,7 @@ triples-append (x ∷ xs) ys = ap (λ n. length (triples x) + n) (triples-append
     regroup a b c = omega arith
 
 pub triples_more : (xs : List LinearForm) (i : ℕ) (x : LinearForm) → i < length xs → x ≡ get_or xs i x → triples_in_all (take (i + 1) xs) ≡ triples_in_all (take i xs) + length (triples x)
-triples_more xs i x lt is = ap triples_in_all (taken xs i x lt is) ∙ triples-append (take i xs) (x ∷ []) ∙ ap (λ n. triples_in_all (take i xs) + n) (plain (length (triples x)))
+triples_more xs i x lt is = ap triples_in_all (sym (take_more xs i x lt is)) ∙ triples-append (take i xs) (x ∷ []) ∙ ap (λ n. triples_in_all (take i xs) + n) (plain (length (triples x)))
   where
     plain : (n : ℕ) → n + 0 ≡ n
     plain n = omega arith

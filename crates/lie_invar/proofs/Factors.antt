@@ -14,6 +14,7 @@ use Rattle.lie_prolong.proofs.Absolutes.{IsBounded, bounded_plain, bounded_cover
 use Rattle.lie_solved.proofs.Variables.{every_back, every_front}
 use Rattle.lie_invar.proofs.Products.{IsProper, bounded_itself, bounded_times, nonneg_times, proper_one, proper_times, cause_times}
 use Rattle.lie_invar.proofs.PowerSteps.{times_one}
+use Rattle.lie_ring.proofs.Fronts.{take_more}
 
 -- ---- lists up to a place
 pub parted_at : {X : Type 0} (xs : List X) (i : ℕ) (x : X) → i < length xs → x ≡ get_or xs i x → xs ≡ take i xs ++ x ∷ drop (suc i) xs
@@ -26,9 +27,6 @@ every_rest Q xs i x lt is h = every_back Q (take i xs) (x ∷ drop (suc i) xs) (
 
 pub every_before : {X : Type 0} (Q : X → Type 0) (xs : List X) (i : ℕ) (x : X) → i < length xs → x ≡ get_or xs i x → Every Q xs → Every Q (take i xs)
 every_before Q xs i x lt is h = every_front Q (take i xs) (x ∷ drop (suc i) xs) (subst (Every Q) (parted_at xs i x lt is) h)
-
-pub taken : {X : Type 0} (xs : List X) (i : ℕ) (x : X) → i < length xs → x ≡ get_or xs i x → take (i + 1) xs ≡ take i xs ++ x ∷ []
-taken xs i x lt is = ap (λ n. take n xs) (add-one i) ∙ take-suc xs i x lt ∙ ap (λ y. take i xs ++ y ∷ []) (sym is)
 
 pub read_same : {X : Type 0} (xs : List X) (i : ℕ) (c d : X) → i < length xs → get_or xs i c ≡ get_or xs i d
 read_same [] i c d lt = absurd (omega arith)
@@ -61,7 +59,7 @@ module _ {X : Type 0} where
   pub product_more : (f : X → WholePolynomial) (xs : List X) (i : ℕ) (x : X) (start now next : WholePolynomial) → i < length xs → x ≡ get_or xs i x → now ≡ start *ᴾ product f (take i xs) → next ≡ now *ᴾ f x → next ≡ start *ᴾ product f (take (i + 1) xs)
   product_more f xs i x start now next lt is h e =
       e ∙ ap (λ p. p *ᴾ f x) h ∙ *ᴾ_assoc start (product f (take i xs)) (f x)
-      ∙ ap (λ p. start *ᴾ p) (ap (λ p. product f (take i xs) *ᴾ p) (sym (times_one (f x))) ∙ sym (product-append f (take i xs) (x ∷ [])) ∙ ap (product f) (sym (taken xs i x lt is)))
+      ∙ ap (λ p. start *ᴾ p) (ap (λ p. product f (take i xs) *ᴾ p) (sym (times_one (f x))) ∙ sym (product-append f (take i xs) (x ∷ [])) ∙ ap (product f) (take_more xs i x lt is))
 
   pub product_cause : (fail : PolyFail) (f g : X → WholePolynomial) → ((x : X) → IsBounded (f x) (g x)) → (xs : List X) (i : ℕ) (x : X) (start now : WholePolynomial) → i < length xs → x ≡ get_or xs i x → Every (λ x. IsProper (g x)) xs
       → now ≡ start *ᴾ product f (take i xs) → IsCause fail (absolute now *ᴾ g x) → IsCause fail (absolute start *ᴾ product g xs)

@@ -13,14 +13,14 @@ use Rattle.lie_math.proofs.Limits.{canonical_absolutes}
 use Rattle.lie_ring.specs.Entries.{entries}
 use Rattle.lie_jet.proofs.TotalParts.{listed_terms}
 use Rattle.lie_invar.specs.Reductions.{greatest_exponent}
-use Rattle.lie_invar.proofs.Factors.{taken}
+use Rattle.lie_ring.proofs.Fronts.{take_more}
 
 abbrev pub greatest_listed : ℕ → List (Monomial × ℤ) → ℕ
 greatest_listed w ts = sum_of_entries maxima (λ m a. exponent m w) ts
 
 pub listed_more : (w : ℕ) (ts : List (Monomial × ℤ)) (i : ℕ) (t : Monomial × ℤ) (g n r : ℕ) → i < length ts → t ≡ get_or ts i t → g ≡ greatest_listed w (take i ts) → n ≡ exponent t.0 w → r ≡ max g n → r ≡ greatest_listed w (take (i + 1) ts)
 listed_more w ts i t g n r lt is f h e =
-    e ∙ ap₂ max f (h ∙ plain (exponent t.0 w)) ∙ sym (sum_of_entries-append maxima (λ m a. exponent m w) (take i ts) (t ∷ [])) ∙ ap (greatest_listed w) (sym (taken ts i t lt is))
+    e ∙ ap₂ max f (h ∙ plain (exponent t.0 w)) ∙ sym (sum_of_entries-append maxima (λ m a. exponent m w) (take i ts) (t ∷ [])) ∙ ap (greatest_listed w) (take_more ts i t lt is)
   where
     plain : (n : ℕ) → n ≡ max n 0
     plain n = omega arith
@@ -37,7 +37,7 @@ exponent-append (Q ∷ Ps) P w = ap (max (degree_in w Q)) (exponent-append Ps P 
 
 pub exponent_more : (Ps : List WholePolynomial) (i : ℕ) (P : WholePolynomial) (w g n r : ℕ) (xs ys : List (Monomial × ℤ)) → i < length Ps → P ≡ get_or Ps i P → g ≡ greatest_exponent (take i Ps) w → n ≡ greatest_listed w xs → xs ≡ ys → entries (λ z. z) ys ≡ P.list → r ≡ max g n → r ≡ greatest_exponent (take (i + 1) Ps) w
 exponent_more Ps i P w g n r xs ys lt is f h l k e =
-    e ∙ ap₂ max f (h ∙ ap (greatest_listed w) (listed_terms P xs ys l k)) ∙ sym (exponent-append (take i Ps) P w) ∙ ap (λ Qs. greatest_exponent Qs w) (sym (taken Ps i P lt is))
+    e ∙ ap₂ max f (h ∙ ap (greatest_listed w) (listed_terms P xs ys l k)) ∙ sym (exponent-append (take i Ps) P w) ∙ ap (λ Qs. greatest_exponent Qs w) (take_more Ps i P lt is)
 
 -- ---- absolute values have the same exponents
 listed_absolutes : (w : ℕ) (ts : List (Monomial × ℤ)) → greatest_listed w (absolutes ts) ≡ greatest_listed w ts

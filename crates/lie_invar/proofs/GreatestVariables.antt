@@ -32,7 +32,9 @@ use Rattle.lie_solved.proofs.RuleSteps.{lead_at}
 use Rattle.lie_invar.proofs.ApplicationSteps.{slope_at_lead}
 use Rattle.lie_solved.specs.Equations.{variables_in, variables_of}
 use Rattle.lie_solved.proofs.Variables.{every_in, every_front, every_back}
-use Rattle.lie_invar.proofs.Factors.{taken, read_same, every_rest}
+use Rattle.lie_invar.proofs.Factors.{read_same, every_rest}
+use Rattle.lie_gram.proofs.PrintedEquations.{twice_less}
+use Rattle.lie_ring.proofs.Fronts.{take_more}
 
 abbrev pub pairs_bound : List (ℕ × ℕ) → ℕ
 pairs_bound ps = sum_of_entries maxima (λ w e. suc w) ps
@@ -44,7 +46,7 @@ terms_bound ts = sum_of_entries maxima (λ m a. pairs_bound m.list) ts
 pub pairs_more : (ps : List (ℕ × ℕ)) (i : ℕ) (d : ℕ × ℕ) (k g r : ℕ) → i < length ps → suc g ≡ max k (pairs_bound (take i ps)) → r ≡ max g (get_or ps i d).0 → suc r ≡ max k (pairs_bound (take (i + 1) ps))
 pairs_more ps i d k g r lt h e =
     grown g (get_or ps i d).0 r k (pairs_bound (take i ps)) h e
-    ∙ ap (max k) (sym (sum_of_entries-append maxima (λ w e. suc w) (take i ps) (get_or ps i d ∷ [])) ∙ ap pairs_bound (sym (taken ps i (get_or ps i d) lt (read_same ps i d (get_or ps i d) lt))))
+    ∙ ap (max k) (sym (sum_of_entries-append maxima (λ w e. suc w) (take i ps) (get_or ps i d ∷ [])) ∙ ap pairs_bound (take_more ps i (get_or ps i d) lt (read_same ps i d (get_or ps i d) lt)))
   where
     grown : (g n r k b : ℕ) → suc g ≡ max k b → r ≡ max g n → suc r ≡ max k (max b (max (suc n) 0))
     grown g n r k b h e = omega arith
@@ -52,7 +54,7 @@ pairs_more ps i d k g r lt h e =
 pub terms_more : (ts : List (Monomial × ℤ)) (i : ℕ) (t : Monomial × ℤ) (k g r : ℕ) (ps : List (ℕ × ℕ)) → i < length ts → t ≡ get_or ts i t → suc g ≡ max k (terms_bound (take i ts)) → ps ≡ (t.0).list → suc r ≡ max (suc g) (pairs_bound ps) → suc r ≡ max k (terms_bound (take (i + 1) ts))
 terms_more ts i t k g r ps lt is h l e =
     grown g r k (terms_bound (take i ts)) (pairs_bound (t.0).list) h (e ∙ ap (λ qs. max (suc g) (pairs_bound qs)) l)
-    ∙ ap (max k) (sym (sum_of_entries-append maxima (λ m a. pairs_bound m.list) (take i ts) (t ∷ [])) ∙ ap terms_bound (sym (taken ts i t lt is)))
+    ∙ ap (max k) (sym (sum_of_entries-append maxima (λ m a. pairs_bound m.list) (take i ts) (t ∷ [])) ∙ ap terms_bound (take_more ts i t lt is))
   where
     grown : (g r k b n : ℕ) → suc g ≡ max k b → suc r ≡ max (suc g) n → suc r ≡ max k (max b (max n 0))
     grown g r k b n h e = omega arith
@@ -75,9 +77,6 @@ least_bound n P h = least_terms n P.list (every_in (is_below n) P h)
 wider_below : (m n : ℕ) → m ≤ n → (P : WholePolynomial) → IsIn (is_below m) P → IsIn (is_below n) P
 wider_below m n h P = in-wider (is_below m) (is_below n) (λ w e. lt-ltb w n (let k : w < m = ltb-true w m e in omega arith)) P
 
-left_without : (a b : WholePolynomial) → a +ᴾ negᴾ (a +ᴾ negᴾ b) ≡ b
-left_without a b = solve polynomial_ring (listed 0ᴾ (a ∷ b ∷ [])) (v 0 ⊕ ⊖ (v 0 ⊕ ⊖ (v 1))) (v 1) refl
-
 pub bound_difference : (r : SolvedEquation) → ¬ (r.factor ≡ pos 0) → FreeOf r.lead r.right → bound (difference r) ≡ max (suc r.lead) (bound r.right)
 bound_difference r n free =
     both (bound (difference r)) (suc r.lead) (bound r.right) (least_bound (max (suc r.lead) (bound r.right)) (difference r) inside) (lead_below (ltb r.lead (bound (difference r))) refl) (least_bound (bound (difference r)) r.right right_below)
@@ -97,7 +96,7 @@ bound_difference r n free =
 
     right_below : IsIn (is_below (bound (difference r))) r.right
     right_below =
-        subst (IsIn (is_below (bound (difference r)))) (left_without (constant r.factor *ᴾ variable r.lead) r.right)
+        subst (IsIn (is_below (bound (difference r)))) (twice_less (constant r.factor *ᴾ variable r.lead) r.right)
         (in-+ᴾ (is_below (bound (difference r))) (constant r.factor *ᴾ variable r.lead) (negᴾ (difference r))
         (in-*ᴾ (is_below (bound (difference r))) (constant r.factor) (variable r.lead) (in-constant _ r.factor) (in-variable _ r.lead (lt-ltb r.lead (bound (difference r)) (let k : suc r.lead ≤ bound (difference r) = lead_below (ltb r.lead (bound (difference r))) refl in omega arith))))
         (in-*ᴾ (is_below (bound (difference r))) (constant (negsuc 0)) (difference r) (in-constant _ (negsuc 0)) (in-bound (difference r))))
@@ -145,7 +144,7 @@ module _ (S : Space) where
       → g ≡ greatest_order S (solved_equations S (take i rules)) → m ≡ max g o → m ≡ greatest_order S (solved_equations S (take (i + 1) rules))
   order_more rules i r l w o g m ts lt is h e t f k q z =
       z ∙ ap₂ max q (k ∙ ap (λ v. order_of (coordinate S v)) (less w (bound (difference (solved_equation S r))) (f ∙ ap₂ (λ a us. max (suc a) (terms_bound us)) e t ∙ sym (bound_difference (solved_equation S r) h.factor h.free))))
-      ∙ sym (order-append (solved_equations S (take i rules)) (solved_equation S r)) ∙ ap (greatest_order S) (sym (ap (map (solved_equation S)) (taken rules i r lt is) ∙ map-append (solved_equation S) (take i rules) (r ∷ [])))
+      ∙ sym (order-append (solved_equations S (take i rules)) (solved_equation S r)) ∙ ap (greatest_order S) (sym (ap (map (solved_equation S)) (sym (take_more rules i r lt is)) ∙ map-append (solved_equation S) (take i rules) (r ∷ [])))
     where
       less : (w b : ℕ) → suc w ≡ b → w ≡ b - 1
       less w b e = omega arith

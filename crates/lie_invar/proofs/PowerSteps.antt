@@ -20,9 +20,10 @@ use Rattle.lie_poly.specs.Failures.{IsStarved}
 use Rattle.lie_poly.proofs.BulkLists.{limits_of}
 use Rattle.lie_poly.proofs.SumSteps.{cause_covered}
 use Rattle.lie_jet.proofs.Absolutes.{within_starved}
-use Rattle.lie_prolong.proofs.Absolutes.{IsBounded, absolute-nonneg, bounded_plain, bounded_covered, bounded_absolute, absolute_bounded, coefficient-absolute}
+use Rattle.lie_prolong.proofs.Absolutes.{IsBounded, absolute-nonneg, bounded_plain, bounded_covered, bounded_absolute, absolute_bounded}
 use Rattle.lie_invar.specs.ReducedTerms.{power}
 use Rattle.lie_invar.proofs.Products.{IsProper, bounded_times, bounded_power, nonneg_times, proper_power, cause_times}
+use Rattle.lie_jet.proofs.FormBounds.{coefficient_absolute}
 
 pub times_one : (p : WholePolynomial) → p *ᴾ constant (pos 1) ≡ p
 times_one p = *ᴾ_comm p (constant (pos 1)) ∙ one-*ᴾ p
@@ -33,7 +34,7 @@ absolute_plain p = bounded_plain p (absolute p) (bounded_absolute p)
 pub absolute_proper : (p : WholePolynomial) → ¬ (p ≡ 0ᴾ) → IsProper (absolute p)
 absolute_proper p n = record {
   plain = absolute_plain p;
-  apart = λ e. n (ext terms p 0ᴾ (λ m. unsigned_abs_zero (coefficient p m) (zero_of (unsigned_abs (coefficient p m)) (sym (coefficient-absolute p m) ∙ ap (λ q. coefficient q m) e ∙ value-none terms m)) ∙ sym (value-none terms m)));
+  apart = λ e. n (ext terms p 0ᴾ (λ m. unsigned_abs_zero (coefficient p m) (zero_of (unsigned_abs (coefficient p m)) (sym (coefficient_absolute p m) ∙ ap (λ q. coefficient q m) e ∙ value-none terms m)) ∙ sym (value-none terms m)));
 }
   where
     zero_of : (n : ℕ) → pos n ≡ pos 0 → n ≡ 0

@@ -16,7 +16,6 @@ use Rattle.lie_geometry.specs.DeterminingEquations.{symbolic_reduced}
 use Rattle.lie_geometry.specs.SolvedEquations.{SolvedEquation, reduced_by}
 use Rattle.lie_ring.specs.Causes.{IsCause}
 use Rattle.lie_ring.specs.declared.failures.PolyFail.{PolyFail}
-use Rattle.lie_poly.proofs.TimesSteps.{all_taken}
 use Rattle.lie_jet.specs.Derivatives.{derivative_of, derivative_terms}
 use Rattle.lie_jet.specs.FormLimits.{IsFormCause, IsCoefficientCause}
 use Rattle.lie_jet.specs.declared.derivative.Der.{Der}
@@ -24,7 +23,7 @@ use Rattle.lie_jet.proofs.Absolutes.{absolute_twice}
 use Rattle.lie_jet.proofs.DerivativeLists.{length_map, take_map}
 use Rattle.lie_jet.proofs.FormBounds.{IsBound, at, IsFormBound, cause_bound, form_trans, form_plain, form_sum, form_one, over_entries, entries_bound, front_bound, sizes_of, list_sizes, sizes_bound}
 use Rattle.lie_jet.proofs.FormCauses.{coefficient_cause}
-use Rattle.lie_jet.proofs.FormSteps.{part_cause, put_cause, entries_step}
+use Rattle.lie_jet.proofs.FormSteps.{part_cause, put_cause, entries_step, over_sizes}
 use Rattle.lie_invar.proofs.GreatestExponents.{degree_absolute}
 use Rattle.lie_invar.specs.Bulks.{absolute_equations, reduction_bulk_by}
 use Rattle.lie_systems.specs.Bulk.{IsWithinLimits, HasManyTriples}
@@ -35,6 +34,8 @@ use Rattle.lie_invar.specs.ReducedTerms.{exponents_at}
 use Rattle.lie_invar.specs.Reductions.{greatest_exponent, CanReduce}
 use Rattle.lie_invar.proofs.FewerTriples.{fewer_triples}
 use Rattle.lie_invar.specs.SymbolicBulks.{degree_in_form, symbolic_reduction_bulk}
+use Rattle.lie_invar.proofs.AbsoluteRules.{absolute-equations}
+use Rattle.lie_ring.proofs.Fronts.{all_taken}
 
 -- ---- the greatest exponents
 pub form_exponents : (E : LinearForm) → ◌≡◌ {A = ℕ → ℕ} (greatest_exponent (map (λ t. t.1) E.list)) (λ w. degree_in_form w E)
@@ -51,15 +52,6 @@ sizes_degree w E = ap (sum_of_entries maxima (λ d a. degree_in w a)) (list_size
     go [] = refl
     go (e ∷ es) = ap₂ max (degree_absolute w e.1) (go es)
 
--- ---- with absolute values
-absolute_again : (rs : List SolvedEquation) → absolute_equations (absolute_equations rs) ≡ absolute_equations rs
-absolute_again [] = refl
-absolute_again (r ∷ rs) = ap₂ ◌∷◌ (λ i. record { lead = r.lead; factor = pos (unsigned_abs r.factor); right = absolute_twice r.right i }) (absolute_again rs)
-
-over_sizes : (φ : Derivative → WholePolynomial → LinearForm) (es : List (Derivative × WholePolynomial)) → over_entries φ (sizes_of es) ≡ over_entries (λ d a. φ d (absolute a)) es
-over_sizes φ [] = refl
-over_sizes φ (e ∷ es) = ap (λ E. φ e.0 (absolute e.1) +ᶠ E) (over_sizes φ es)
-
 module _ (rs qs : List SolvedEquation) (sized : qs ≡ absolute_equations rs) (E A : LinearForm) (sizes : A ≡ each_coefficient absolute E) where
   same_exponents : ◌≡◌ {A = ℕ → ℕ} (λ w. degree_in_form w A) (λ w. degree_in_form w E)
   same_exponents = fun_ext (λ w. ap (degree_in_form w) sizes ∙ sizes_degree w E)
@@ -75,7 +67,7 @@ module _ (rs qs : List SolvedEquation) (sized : qs ≡ absolute_equations rs) (E
   pub same_bulk : symbolic_reduction_bulk qs A ≡ symbolic_reduction_bulk rs E
   same_bulk =
       ap (λ x. each_coefficient (reduction_bulk_by x (λ w. degree_in_form w A)) A) sized ∙ ap (λ e. each_coefficient (reduction_bulk_by (absolute_equations rs) e) A) same_exponents
-      ∙ ap (λ x. each_coefficient (λ a. reduced_by x (λ w. degree_in_form w E) (absolute a)) A) (absolute_again rs)
+      ∙ ap (λ x. each_coefficient (λ a. reduced_by x (λ w. degree_in_form w E) (absolute a)) A) (absolute-equations rs)
       ∙ ap (λ F. over_entries (λ d a. form_term d (reduced_by (absolute_equations rs) (λ w. degree_in_form w E) (absolute a))) F) (ap (λ (F : LinearForm). F.list) sizes ∙ list_sizes E)
       ∙ over_sizes (λ d a. form_term d (reduced_by (absolute_equations rs) (λ w. degree_in_form w E) (absolute a))) E.list
       ∙ ap (λ φ. over_entries φ E.list) (fun_ext (λ d. fun_ext (λ a. ap (λ p. form_term d (reduced_by (absolute_equations rs) (λ w. degree_in_form w E) p)) (absolute_twice a))))

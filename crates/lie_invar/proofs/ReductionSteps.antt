@@ -35,9 +35,10 @@ use Rattle.lie_solved.proofs.Variables.{weaken}
 use Rattle.lie_invar.specs.Bulks.{absolute_equations, reduction_bulk_by, reduction_bulk}
 use Rattle.lie_invar.specs.Reductions.{greatest_exponent, IsReductionCause}
 use Rattle.lie_invar.specs.ReducedTerms.{power, replaced, reduced_term, IsKept}
-use Rattle.lie_invar.proofs.Factors.{proper_product, apart_product, bounded_products, taken}
+use Rattle.lie_invar.proofs.Factors.{proper_product, apart_product, bounded_products}
 use Rattle.lie_invar.proofs.Products.{IsProper, times-none, bounded_times, cause_times}
 use Rattle.lie_invar.proofs.Replacing.{replaced_power, replaced_bulk, replaced_is, replaced_bulk_is, replaced_bounded, kept_proper, missing_power, missing_is, missing_absolute, absolute_constant, power_apart}
+use Rattle.lie_ring.proofs.Fronts.{take_more}
 
 -- ---- terms put behind others
 pub pushed_sum : (ms ts : List (Monomial × ℤ)) (p : WholePolynomial) (new : List (Monomial × ℤ)) → new ≡ ms ++ ts → entries (λ z. z) ts ≡ p.list → sum_listed new ≡ sum_listed ms +ᴾ p
@@ -121,7 +122,7 @@ abbrev pub total : (Monomial → ℤ → WholePolynomial) → List (Monomial × 
 total φ ts = sum_of_entries polynomials φ ts
 
 pub total_more : (φ : Monomial → ℤ → WholePolynomial) (ts : List (Monomial × ℤ)) (i : ℕ) (t : Monomial × ℤ) → i < length ts → t ≡ get_or ts i t → total φ (take (i + 1) ts) ≡ total φ (take i ts) +ᴾ φ t.0 t.1
-total_more φ ts i t lt is = ap (total φ) (taken ts i t lt is) ∙ sum_of_entries-append polynomials φ (take i ts) (t ∷ []) ∙ ap (λ p. total φ (take i ts) +ᴾ p) (sym (plus_none (φ t.0 t.1) 0ᴾ refl))
+total_more φ ts i t lt is = ap (total φ) (sym (take_more ts i t lt is)) ∙ sum_of_entries-append polynomials φ (take i ts) (t ∷ []) ∙ ap (λ p. total φ (take i ts) +ᴾ p) (sym (plus_none (φ t.0 t.1) 0ᴾ refl))
 
 module _ (rs : List SolvedEquation) (e : ℕ → ℕ) where
   abbrev pub sized_term : Monomial → ℤ → WholePolynomial

@@ -23,7 +23,7 @@ use Rattle.lie_geometry.proofs.Reduction.{replacement_other}
 use Rattle.lie_ring.specs.Causes.{IsCause}
 use Rattle.lie_ring.specs.declared.failures.PolyFail.{PolyFail}
 use Rattle.lie_jet.specs.Jets.{coordinate_of}
-use Rattle.lie_prolong.proofs.Absolutes.{IsBounded, bounded_absolute, coefficient-absolute}
+use Rattle.lie_prolong.proofs.Absolutes.{IsBounded, bounded_absolute}
 use Rattle.lie_solved.specs.declared.solved.LeadRule.{LeadRule}
 use Rattle.lie_solved.specs.SolvedForms.{solved_equations}
 use Rattle.lie_solved.proofs.Variables.{weaken}
@@ -32,6 +32,8 @@ use Rattle.lie_invar.specs.ReducedTerms.{power, replaced, IsKept, exponents_at}
 use Rattle.lie_invar.proofs.Factors.{product, product_more, product_cause, apart_product, every_before, read_same}
 use Rattle.lie_invar.proofs.PowerSteps.{one_absolute, absolute_proper}
 use Rattle.lie_invar.proofs.Products.{IsProper, bounded_power, proper_power}
+use Rattle.lie_jet.proofs.FormBounds.{coefficient_absolute}
+use Rattle.lie_jet.proofs.TotalBounds.{absolute_variable}
 
 -- ---- the rule of a lead
 module _ (S : Space) where
@@ -76,9 +78,6 @@ power_variable v n =
     sym (value_in_itself (term (power_of v n) (pos 1))) ∙ value_in-term polynomial_algebra variable (power_of v n) (pos 1) ∙ one-*ᴾ (monomial_value polynomial_algebra variable (power_of v n))
     ∙ sum-term powers (factors polynomial_algebra) _ (to_power_additive polynomial_algebra variable) v n
 
-pub absolute_variable : (v : ℕ) → absolute (variable v) ≡ variable v
-absolute_variable v = one_absolute (single v) (variable v) refl
-
 pub power_constant : (c : ℤ) (n : ℕ) → power (constant c) n ≡ constant (to_power integer_algebra c n)
 power_constant c zero = refl
 power_constant c (suc n) = ap (λ p. constant c *ᴾ p) (power_constant c n) ∙ sym (constant-times c (to_power integer_algebra c n))
@@ -106,7 +105,7 @@ pub absolute_constant : (c : ℤ) → absolute (constant c) ≡ constant (pos (u
 absolute_constant c = ext terms (absolute (constant c)) (constant (pos (unsigned_abs c))) (λ k. at k)
   where
     at : (k : Monomial) → coefficient (absolute (constant c)) k ≡ coefficient (constant (pos (unsigned_abs c))) k
-    at k = coefficient-absolute (constant c) k ∙ ap (λ z. pos (unsigned_abs z)) (value-term terms unit c k) ∙ by (eq_by_cmp monomial_cmp k unit) ∙ sym (value-term terms unit (pos (unsigned_abs c)) k)
+    at k = coefficient_absolute (constant c) k ∙ ap (λ z. pos (unsigned_abs z)) (value-term terms unit c k) ∙ by (eq_by_cmp monomial_cmp k unit) ∙ sym (value-term terms unit (pos (unsigned_abs c)) k)
       where
         by : (t : Bool) → pos (unsigned_abs (cond t c (pos 0))) ≡ cond t (pos (unsigned_abs c)) (pos 0)
         by true = refl

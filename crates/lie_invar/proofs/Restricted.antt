@@ -13,7 +13,7 @@ use Rattle.lie_math.proofs.CanonicalLists.{canonical_value, canonical_below, can
 use Rattle.lie_math.proofs.FiniteSum.{key}
 use Rattle.lie_geometry.specs.DeterminingEquations.{restrict}
 use Rattle.lie_geometry.proofs.Parts.{exponent-restrict}
-use Rattle.lie_lin.proofs.DividedForms.{take_all}
+use Rattle.lie_ring.proofs.Fronts.{all_taken}
 
 module _ (A : ℕ → Bool) where
   -- the pairs whose variable is in the set
@@ -80,7 +80,7 @@ module _ (A : ℕ → Bool) where
 
   pub made : (m : Monomial) (ps out : List (ℕ × ℕ)) (i : ℕ) → ps ≡ m.list → length ps ≤ i → out ≡ pairs_in (take i ps) → IsCanonical powers out × (monomial_of out ≡ restrict A m)
   made m ps out i e le is =
-      let all : out ≡ pairs_in m.list = is ∙ ap pairs_in (take_all ps i le ∙ e) in (
+      let all : out ≡ pairs_in m.list = is ∙ ap pairs_in (all_taken ps i le ∙ e) in (
         subst (IsCanonical powers) (sym all) (canonical_in m.list m.canonical),
         ap monomial_of all ∙ restricted m,
       )

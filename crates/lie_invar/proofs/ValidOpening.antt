@@ -51,7 +51,7 @@ rising_range number f k a (suc n) is = (
     above : (s : ℕ) → a + 1 ≤ s → number (f a) < number (f s)
     above s l = let x = is a in let y = is s in omega arith
 
-map_itself : (xs : List ℕ) → map (λ x. x) xs ≡ xs
+pub map_itself : (xs : List ℕ) → map (λ x. x) xs ≡ xs
 map_itself [] = refl
 map_itself (x ∷ xs) = ap (λ ys. x ∷ ys) (map_itself xs)
 

@@ -1,15 +1,14 @@
 // The greatest order of a derivative in a solved system.
-ghost use Rattle.std.specs.Prelude.{◌≡◌, ◌≤◌, ◌<◌, suc, max, take, IfOk};
-ghost use Rattle.lie_math.specs.Counts.{order as order_of_counts};
+ghost use Rattle.std.specs.Prelude.{◌≡◌, ◌≤◌, ◌<◌, suc, max, IfOk};
 ghost use Rattle.lie_math.specs.Natural.{maxima};
 ghost use Rattle.lie_math.specs.SortedSum.{sum_of_entries};
-ghost use Rattle.lie_geometry.specs.Coordinates.{coordinate, coordinates_up_to, order_of as order_at};
+ghost use Rattle.lie_geometry.specs.Coordinates.{coordinate, coordinates_up_to, order_of as order_of_coordinate};
 ghost use Rattle.lie_geometry.specs.Invariance.{greatest_order};
-ghost use Rattle.lie_jet.specs.Jets.{IsJet};
 ghost use Rattle.lie_solved.specs.SolvedForms.{solved_equations};
 ghost use Rattle.lie_solved.specs.SolvedRules.{AreSolvedRules};
 
-use lie_jet::{Jet, Space, jet_number, jet_of};
+use lie_jet::{Space, jet_number, jet_of};
+use lie_prolong::order_of;
 use lie_ring::{Mono, NoMemory, Polynomial, Whole};
 use lie_solved::LeadRule;
 use std::alloc::Global;
@@ -36,26 +35,14 @@ fn greatest_variable(terms: &[(Mono, Whole)], number: u32) -> u32
     greatest
 }
 
-/// The order of a jet.
-fn order_of_jet(space: Space, jet: &Jet) -> u8
-    requires { IsJet space 12 jet.now }
-    ensures { result ≡ order_of_counts (take space.p jet.now.counts) }
-{
-    let mut order: u32 = 0;
-    for count in &jet.counts[..usize::from(space.p)] {
-        order += u32::from(*count);
-    }
-    order as u8
-}
-
 /// The order of the coordinate with a number.
-fn order_of(space: Space, number: u32) -> u8
+fn order_at(space: Space, number: u32) -> u8
     requires { number < coordinates_up_to space 6 }
-    ensures order { result ≡ order_at (coordinate space number) }
+    ensures order { result ≡ order_of_coordinate (coordinate space number) }
     ensures low { result ≤ 6 }
 {
     match jet_of(space, number) {
-        Some(jet) => order_of_jet(space, &jet),
+        Some(jet) => order_of(space, &jet) as u8,
         None => 0,
     }
 }
@@ -70,7 +57,7 @@ pub fn greatest_order(alloc: Global, space: Space, rules: &[LeadRule]) -> Result
     for rule in rules {
         let terms = rule.right.terms(alloc)?;
         let number = greatest_variable(terms.as_slice(), jet_number(space, &rule.lead));
-        greatest = greatest.max(order_of(space, number));
+        greatest = greatest.max(order_at(space, number));
     }
     Ok(greatest)
 }

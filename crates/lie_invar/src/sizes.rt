@@ -1,5 +1,5 @@
 // Rules and polynomials with the absolute values of all coefficients.
-ghost use Rattle.std.specs.Prelude.{◌≡◌, map, pos, unsigned_abs, IfOk, IfErr};
+ghost use Rattle.std.specs.Prelude.{◌≡◌, map, IfOk, IfErr};
 ghost use Rattle.lie_math.specs.Limits.{absolute};
 ghost use Rattle.lie_geometry.specs.Coordinates as coordinates;
 ghost use Rattle.lie_poly.specs.Failures.{IsStarved};
@@ -7,17 +7,10 @@ ghost use Rattle.lie_solved.specs.SolvedForms.{solved_equations};
 ghost use Rattle.lie_invar.specs.Bulks.{absolute_equations};
 ghost use Rattle.lie_invar.specs.Reductions.{CanReduce, IsAbsoluteRule};
 
-use lie_jet::{JetPoly, absolute_polynomial};
-use lie_ring::{PolyFail, Ring, Whole};
+use lie_jet::{JetPoly, absolute_polynomial, absolute_value};
+use lie_ring::PolyFail;
 use lie_solved::LeadRule;
 use std::alloc::Global;
-
-/// The absolute value.
-pub fn absolute_value(c: Whole) -> Whole
-    ensures { result ≡ pos (unsigned_abs c) }
-{
-    if c.get() < 0 { c.neg() } else { c }
-}
 
 /// The rule with the absolute values of its coefficients.
 pub fn absolute_rule(alloc: Global, rule: &LeadRule) -> Result<LeadRule, PolyFail>

@@ -41,7 +41,7 @@ within_absolute p w =
     (sizes_within p.list (entries_of terms p (λ e. FitsNumber e.1 × HasLowExponents e.0) (λ e is apart. (subst FitsNumber is (w.coefficients e.0), w.exponents e.0 (λ z. apart (sym is ∙ z))))))
     (let l = length-absolutes p.list in let few : length p.list ≤ 1000000 = w.terms in omega arith)
 
-absolutes_twice : (es : List (Monomial × ℤ)) → absolutes (absolutes es) ≡ absolutes es
+pub absolutes_twice : (es : List (Monomial × ℤ)) → absolutes (absolutes es) ≡ absolutes es
 absolutes_twice [] = refl
 absolutes_twice (e ∷ es) = ap (λ xs. (e.0, pos (unsigned_abs e.1)) ∷ xs) (absolutes_twice es)
 

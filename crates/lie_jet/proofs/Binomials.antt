@@ -6,6 +6,7 @@ use Rattle.std.proofs.lemmas.Grind.{common_steps}
 use Rattle.lie_geometry.specs.Coordinates.{sum_below, ways, rank}
 use Rattle.lie_math.specs.Counts.{order}
 use Rattle.lie_geometry.proofs.Numbers.{sum_rises, ranked}
+use Rattle.lie_geometry.proofs.NumberOrder.{sums_small}
 
 no_more : (n : ℕ) → ways 0 (suc n) ≡ 0
 no_more n = grind (arith, common_steps)
@@ -42,16 +43,8 @@ low_product n h =
     step : (k : ℕ) → n + k ≤ 13 + k
     step k = omega arith
 
-few_at_13 : (p : ℕ) → p ≤ 4 → sum_below (ways p) 13 ≤ 1820
-few_at_13 zero h = omega arith
-few_at_13 (suc zero) h = omega arith
-few_at_13 (suc (suc zero)) h = omega arith
-few_at_13 (suc (suc (suc zero))) h = omega arith
-few_at_13 (suc (suc (suc (suc zero)))) h = omega arith
-few_at_13 (suc (suc (suc (suc (suc p))))) h = absurd (omega arith)
-
 pub few_below : (p n : ℕ) → p ≤ 4 → n ≤ 13 → sum_below (ways p) n ≤ 1820
-few_below p n h k = let a : sum_below (ways p) n ≤ sum_below (ways p) 13 = sum_rises (ways p) n 13 k in let b : sum_below (ways p) 13 ≤ 1820 = few_at_13 p h in omega arith
+few_below p n h k = let a : sum_below (ways p) n ≤ sum_below (ways p) 13 = sum_rises (ways p) n 13 k in let b : sum_below (ways p) 13 ≤ 1820 = sums_small p h in omega arith
 
 pub few_ranks : (J : List ℕ) → length J ≤ 4 → order J ≤ 12 → rank J ≤ 1820
 few_ranks J h k = let a : rank J < ways (length J) (order J) = ranked J in let b : sum_below (ways (length J)) (suc (order J)) ≤ 1820 = few_below (length J) (suc (order J)) h (omega arith) in omega arith

@@ -1,8 +1,7 @@
 -- The derivative of a term is the sum over its powers: the chain rule, power by power.
 use Rattle.std.specs.Prelude.{◌≡◌, ℕ, zero, suc, ◌+◌, ◌<◌, ◌≤◌, Bool, true, false, cond, List, [], ◌∷◌, max, ℤ, pos, ◌*ℤ◌}
-use Rattle.std.proofs.Common.{refl, sym, ap, ap₂, subst, ◌∙◌, arith, is_eq, Equal, true≢false, ltb-false}
+use Rattle.std.proofs.Common.{refl, sym, ap, ap₂, subst, ◌∙◌, arith, true≢false, ltb-false}
 use Rattle.std.specs.Ordering.{eq_by_cmp, nat_cmp}
-use Rattle.std.specs.Cmp.{tied_itself, nat_cmp_total}
 use lib.IntN.{*ℤ-zero}
 use Rattle.lie_math.specs.Derivation.{sum_of, numbers_below, is_below, IsDerivation}
 use Rattle.lie_math.specs.FiniteSumLaws as finite_laws
@@ -22,6 +21,8 @@ use Rattle.lie_math.proofs.Ring.{plus_idr, times_nil}
 use Rattle.lie_math.proofs.SumOf.{sum_of-plus, sum_of-0ᴾ}
 use Rattle.lie_math.specs.Canonical.{value_at-below}
 use Rattle.lie_geometry.proofs.SymbolicProlongation.{sum_of-same}
+use Rattle.lie_math.proofs.PartialDerivation.{same_key}
+use Rattle.lie_ring.proofs.PairLists.{apart}
 
 -- what the power of one variable gives
 abbrev pub part : (ℕ → WholePolynomial) → Monomial → ℤ → ℕ → ℕ → WholePolynomial
@@ -41,16 +42,6 @@ AllBelow n (p ∷ ps) = (p.0 < n) × AllBelow n ps
 same_number : (w v : ℕ) → eq_by_cmp nat_cmp w v ≡ true → w ≡ v
 same_number w v e = finite_proofs.key powers w v e
 
-other : (w v : ℕ) → ¬ (w ≡ v) → eq_by_cmp nat_cmp w v ≡ false
-other w v n = go (eq_by_cmp nat_cmp w v) refl
-  where
-    go : (b : Bool) → eq_by_cmp nat_cmp w v ≡ b → b ≡ false
-    go true e = absurd (n (same_number w v e))
-    go false e = refl
-
-itself : (n v : ℕ) → n ≡ v → eq_by_cmp nat_cmp n v ≡ true
-itself n v q = ap is_eq (subst (λ k. nat_cmp n k ≡ Equal) q (tied_itself nat_cmp_total n))
-
 one_alone : (n v : ℕ) (x : WholePolynomial) → v < n → sum_of (numbers_below n) (λ w. cond (eq_by_cmp nat_cmp w v) x 0ᴾ) ≡ x
 one_alone zero v x h = absurd (omega arith)
 one_alone (suc n) v x h = go (λ k. one_alone n v x k) (eq_by_cmp nat_cmp n v) refl
@@ -59,14 +50,14 @@ one_alone (suc n) v x h = go (λ k. one_alone n v x k) (eq_by_cmp nat_cmp n v) r
     less k = omega arith
 
     off : (w : ℕ) → w < n → n ≡ v → cond (eq_by_cmp nat_cmp w v) x 0ᴾ ≡ 0ᴾ
-    off w k e = ap (λ b. cond b x 0ᴾ) (other w v (λ q. apart w k e q))
+    off w k e = ap (λ b. cond b x 0ᴾ) (apart w v (λ q. differs w k e q))
       where
-        apart : (w : ℕ) → w < n → n ≡ v → w ≡ v → ⊥
-        apart w k e q = omega arith
+        differs : (w : ℕ) → w < n → n ≡ v → w ≡ v → ⊥
+        differs w k e q = omega arith
 
     go : (v < n → sum_of (numbers_below n) (λ w. cond (eq_by_cmp nat_cmp w v) x 0ᴾ) ≡ x) → (b : Bool) → eq_by_cmp nat_cmp n v ≡ b → cond b x 0ᴾ +ᴾ sum_of (numbers_below n) (λ w. cond (eq_by_cmp nat_cmp w v) x 0ᴾ) ≡ x
     go ih true e = ap (λ r. x +ᴾ r) (sum_of-same n (λ w. cond (eq_by_cmp nat_cmp w v) x 0ᴾ) (λ w. 0ᴾ) (λ w k. off w k (same_number n v e)) ∙ sum_of-0ᴾ (numbers_below n)) ∙ plus_idr polynomial_ring x
-    go ih false e = finite_laws.plus_idl terms _ ∙ ih (less (λ q. true≢false (sym (itself n v q) ∙ e)))
+    go ih false e = finite_laws.plus_idl terms _ ∙ ih (less (λ q. true≢false (sym (same_key n v q) ∙ e)))
 
 module _ (g : ℕ → ℕ → WholePolynomial) (none : (w : ℕ) → g w 0 ≡ 0ᴾ) where
   step : (p : ℕ × ℕ) (ps : List (ℕ × ℕ)) → IsCanonical powers (p ∷ ps) → (w : ℕ) → g w (at w (p ∷ ps)) ≡ cond (eq_by_cmp nat_cmp w p.0) (g p.0 p.1) 0ᴾ +ᴾ g w (at w ps)
@@ -103,10 +94,10 @@ all_below n (p ∷ ps) h = (omega arith, all_below n ps (omega arith))
 
 none_above : (n v : ℕ) (ps : List (ℕ × ℕ)) → AllBelow n ps → n ≤ v → at v ps ≡ 0
 none_above n v [] h k = refl
-none_above n v (p ∷ ps) h k = ap (λ b. cond b p.1 0 + at v ps) (other v p.0 (apart p h)) ∙ ap (λ r. 0 + r) (none_above n v ps h.1 k)
+none_above n v (p ∷ ps) h k = ap (λ b. cond b p.1 0 + at v ps) (apart v p.0 (differs p h)) ∙ ap (λ r. 0 + r) (none_above n v ps h.1 k)
   where
-    apart : (p : ℕ × ℕ) → (p.0 < n) × AllBelow n ps → v ≡ p.0 → ⊥
-    apart p h e = let l : p.0 < n = h.0 in omega arith
+    differs : (p : ℕ × ℕ) → (p.0 < n) × AllBelow n ps → v ≡ p.0 → ⊥
+    differs p h e = let l : p.0 < n = h.0 in omega arith
 
 term_in : (n : ℕ) (m : Monomial) (c : ℤ) → AllBelow n m.list → IsIn (is_below n) (term m c)
 term_in n m c h v e k o = go (eq_by_cmp monomial_cmp k m) refl

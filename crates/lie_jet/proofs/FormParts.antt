@@ -32,7 +32,7 @@ pub sizes_are : (ts us : List (Der × WholePolynomial)) → us ≡ kept_sizes ts
 sizes_are ts us e h = ap (finite.of forms) (ap derivative_terms e ∙ kept_are ts) ∙ sizes_form (derivative_terms ts) h
 
 -- ---- counting
-triples_in-append : (es fs : List (Derivative × WholePolynomial)) → triples_in (es ++ fs) ≡ triples_in es ++ triples_in fs
+pub triples_in-append : (es fs : List (Derivative × WholePolynomial)) → triples_in (es ++ fs) ≡ triples_in es ++ triples_in fs
 triples_in-append [] fs = refl
 triples_in-append (e ∷ es) fs = ap (λ l. triples_with e.0 e.1.list ++ l) (triples_in-append es fs) ∙ sym (append_assoc (triples_with e.0 e.1.list) (triples_in es) (triples_in fs))
 

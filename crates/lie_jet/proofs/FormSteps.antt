@@ -140,7 +140,7 @@ module _ (S : Space) (small : IsSmall S) (i : ℕ) (inside : i < S.p) (d : Deriv
           (form_sum _ _ _ _ (form_plain _ _ raised_one) (fewer_bound (dependent_term S i d (absolute a)) plain (suc b) S.q less))
 
 -- ---- the terms of the form, one by one
-over_sizes : (φ : Derivative → WholePolynomial → LinearForm) (es : List (Derivative × WholePolynomial)) → over_entries φ (sizes_of es) ≡ over_entries (λ d a. φ d (absolute a)) es
+pub over_sizes : (φ : Derivative → WholePolynomial → LinearForm) (es : List (Derivative × WholePolynomial)) → over_entries φ (sizes_of es) ≡ over_entries (λ d a. φ d (absolute a)) es
 over_sizes φ [] = refl
 over_sizes φ (e ∷ es) = ap (λ E. φ e.0 (absolute e.1) +ᶠ E) (over_sizes φ es)
 

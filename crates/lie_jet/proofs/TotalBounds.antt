@@ -25,6 +25,7 @@ use Rattle.lie_jet.proofs.ChainRules.{part}
 use Rattle.lie_jet.proofs.FormBounds.{IsBound, sum_bound, none_bound, absolute_bound, IsFormBound, form_sum, form_one, over_bound}
 use Rattle.lie_jet.proofs.TotalParts.{slope, some_slope, total_term}
 use Rattle.lie_jet.proofs.TotalSteps.{size_times}
+use Rattle.lie_math.specs.Integer.{*ℤ-idl}
 
 -- ---- one term
 pub term_bound : (m : Monomial) (z : ℤ) → IsBound (term m z) (term m (pos (unsigned_abs z)))
@@ -64,8 +65,8 @@ module _ (S : Space) (small : IsSmall S) (i : ℕ) (inside : i < S.p) where
       go None q = subst (λ d. IsBound (d *ᴾ term (lower w m) (c *ℤ pos e)) (d *ᴾ term (lower w m) (pos (unsigned_abs c) *ℤ pos e))) q (subst₂ IsBound (sym (0ᴾ-*ᴾ _)) (sym (0ᴾ-*ᴾ _)) none_bound)
       go (Some f) q =
           subst (λ d. IsBound (d *ᴾ term (lower w m) (c *ℤ pos e)) (d *ᴾ term (lower w m) (pos (unsigned_abs c) *ℤ pos e))) q
-          (subst₂ IsBound (sym (product f (c *ℤ pos e) ∙ ap (term (f · lower w m)) (Rattle.lie_jet.proofs.TotalSteps.one_times (c *ℤ pos e))))
-          (sym (product f (pos (unsigned_abs c) *ℤ pos e) ∙ ap (term (f · lower w m)) (Rattle.lie_jet.proofs.TotalSteps.one_times (pos (unsigned_abs c) *ℤ pos e) ∙ sym (size_times c e))))
+          (subst₂ IsBound (sym (product f (c *ℤ pos e) ∙ ap (term (f · lower w m)) (*ℤ-idl (c *ℤ pos e))))
+          (sym (product f (pos (unsigned_abs c) *ℤ pos e) ∙ ap (term (f · lower w m)) (*ℤ-idl (pos (unsigned_abs c) *ℤ pos e) ∙ sym (size_times c e))))
           (term_bound (f · lower w m) (c *ℤ pos e)))
 
   of_term : (m : Monomial) (c : ℤ) → IsBound (total_derivative S i (term m c)) (total_derivative S i (term m (pos (unsigned_abs c))))

@@ -76,7 +76,7 @@ variable_below n m ps k low e h = go (λ a. low _ a)
             test true e = ltb-true v n e
             test false e = absurd (b (sym a ∙ f (ltb-false v n e)))
 
-number_of_independent : (S : Space) (j : ℕ) → number S (independent j) ≡ j
+pub number_of_independent : (S : Space) (j : ℕ) → number S (independent j) ≡ j
 unfolding number
 number_of_independent S j = refl
 

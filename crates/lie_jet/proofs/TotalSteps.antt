@@ -3,7 +3,6 @@ use Rattle.std.specs.Prelude.{◌≡◌, ℕ, ◌<◌, ◌≤◌, ◌^◌, List,
 use Rattle.std.proofs.Common.{Result, Ok, Err, sym, ap, ap₂, subst, ◌∙◌, arith}
 use Rattle.std.proofs.lemmas.Int.{unsigned_abs-mul}
 use borrow.Author.Differences.{ints}
-use lib.IntN.{*ℤ_comm}
 use Rattle.lie_math.specs.FiniteSum as finite
 use Rattle.lie_math.specs.FiniteSumLaws.{same_list, list-of}
 use Rattle.lie_math.specs.Limits.{absolutes}
@@ -26,6 +25,7 @@ use Rattle.lie_ring.specs.declared.failures.PolyFail.TheVariants.{Past, NoMemory
 use Rattle.lie_poly.specs.Failures.{IsTermCause}
 use Rattle.lie_poly.proofs.TimesSteps.{term_cause}
 use Rattle.lie_jet.specs.Listed.{sum_listed, bulk_listed}
+use Rattle.lie_math.specs.Integer.{*ℤ-idl}
 
 -- ---- a variable alone
 pub single_is : (v : ℕ) (m : Monomial) → m.list ≡ (v, 1) ∷ [] → m ≡ single v
@@ -67,12 +67,9 @@ bulk_one xs ys m z e =
     ap bulk_listed e ∙ ap (λ es. polynomial_of (absolutes es)) (entries-append (λ c. c) xs ((m, z) ∷ [])) ∙ ap polynomial_of (absolutes-append (entries (λ c. c) xs) ((m, z) ∷ []))
     ∙ of-append terms (absolutes (entries (λ c. c) xs)) ((m, pos (unsigned_abs z)) ∷ []) ∙ ap (λ p. bulk_listed xs +ᴾ p) (sym (term_is m (pos (unsigned_abs z))))
 
-pub one_times : (z : ℤ) → pos 1 *ℤ z ≡ z
-one_times z = *ℤ_comm (pos 1) z ∙ omega (arith, ints)
-
 -- the slope times the rest of the term
 pub slope_times : (f m l : Monomial) (z : ℤ) (d : WholePolynomial) → m ≡ l → term f (pos 1) ≡ d → term (m · f) z ≡ d *ᴾ term l z
-slope_times f m l z d h e = ap₂ (λ n y. term n y) (·_comm m f ∙ ap (λ n. f · n) h) (sym (one_times z)) ∙ sym (term_times_term f l (pos 1) z) ∙ ap (λ p. p *ᴾ term l z) e
+slope_times f m l z d h e = ap₂ (λ n y. term n y) (·_comm m f ∙ ap (λ n. f · n) h) (sym (*ℤ-idl z)) ∙ sym (term_times_term f l (pos 1) z) ∙ ap (λ p. p *ᴾ term l z) e
 
 pub no_slope : (p t d : WholePolynomial) → 0ᴾ ≡ d → p ≡ p +ᴾ d *ᴾ t
 no_slope p t d e = sym (ap (λ x. p +ᴾ x *ᴾ t) (sym e) ∙ ap (λ x. p +ᴾ x) (0ᴾ-*ᴾ t) ∙ plus_idr polynomial_ring p)

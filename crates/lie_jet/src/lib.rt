@@ -20,7 +20,7 @@ pub use form::SymForm;
 pub use form_totals::{put_derived, sum_of_totals, total_sym};
 pub use jet::Jet;
 pub use numbering::{jet_number, jet_of};
-pub use sizes::absolute_polynomial;
+pub use sizes::{absolute_polynomial, absolute_value};
 pub use slopes::raise_jet;
 pub use space::Space;
 pub use totals::{JetPoly, total};

@@ -39,14 +39,14 @@ fn push_size(
         Ok(mono) => mono,
         Err(NoMemory) => return Err(PolyFail::NoMemory),
     };
-    match sizes.push((mono, size_of(term.1))) {
+    match sizes.push((mono, absolute_value(term.1))) {
         Ok(()) => Ok(()),
         Err(_) => Err(PolyFail::NoMemory),
     }
 }
 
 /// The absolute value.
-fn size_of(c: Whole) -> Whole
+pub fn absolute_value(c: Whole) -> Whole
     ensures { result ≡ pos (unsigned_abs c) }
 {
     if c.get() < 0 { c.neg() } else { c }

@@ -6,7 +6,7 @@ ghost use Rattle.lie_math.proofs.Kept.{pairs_in};
 
 use crate::derivative::raise_derivative;
 use crate::{
-    Der, Field, Jet, JetPoly, Space, SymForm, absolute_polynomial, jet_number, jet_of, total,
+    Der, Field, Jet, JetPoly, Space, SymForm, absolute_polynomial, absolute_value, jet_number, jet_of, total,
     total_sym,
 };
 use lie_ring::{Mono, Polynomial, Ring, Whole};
@@ -188,6 +188,7 @@ fn total_of_a_form(rt: HostRuntime) -> Result<(), Fail> {
 fn absolute_values(rt: HostRuntime) -> Result<(), Fail> {
     let alloc = rt.alloc();
     let c = Whole::new(-3).ok_or("too wide")?;
+    assert_eq!(rt; absolute_value(c).get(), 3);
     let terms = vec![in alloc; (Mono::one(alloc), c)]?;
     let p = JetPoly::of_terms(alloc, terms.as_slice())?;
     let sizes = absolute_polynomial(alloc, &p)?.terms(alloc)?;

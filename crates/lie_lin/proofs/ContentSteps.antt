@@ -8,7 +8,7 @@ use Rattle.std.proofs.lemmas.Nat.Gcd.{same_from_IsGcd, dvd_refl, le_of_dvd}
 use Rattle.std.proofs.Math.Nat.{eq-zero_of_zero-dvd}
 use Rattle.lie_math.specs.Limits.{FitsNumber}
 use Rattle.lie_math.proofs.Integer.{int_div_exact, unsigned_abs_zero}
-use Rattle.lie_systems.proofs.Divisibility.{number_back}
+use Rattle.lie_systems.proofs.Divisibility.{number_back, quotient_turned, turned_divisor, quotient_back}
 use Rattle.lie_math.specs.Monomial.{Monomial}
 use Rattle.lie_jet.specs.declared.derivative.Der.{Der}
 use Rattle.lie_systems.specs.Normalised.{common_divisor, content, common_monomial, common_factor}
@@ -48,26 +48,3 @@ pub divisor_fits : (a b g : ℕ) → IsGcd a b g → a < 2 ^ 127 → b < 2 ^ 127
 divisor_fits (suc a) b g h la lb = let k : g ≤ suc a = le_of_dvd (omega arith) h.0 in omega arith
 divisor_fits zero (suc b) g h la lb = let k : g ≤ suc b = le_of_dvd (omega arith) h.1 in omega arith
 divisor_fits zero zero g h la lb = let k : g ≡ 0 = eq-zero_of_zero-dvd (h.2 0 (dvd_refl 0) (dvd_refl 0)) in omega arith
-
--- ---- exact division
-quotient_turned : (x : ℤ) (k : ℕ) → negsuc 0 *ℤ int_div x (pos (suc k)) ≡ int_div x (negsuc k)
-quotient_turned (pos n) k = omega (arith, ints)
-quotient_turned (negsuc n) k = omega (arith, ints)
-
-turned_divisor : (k : ℕ) → negsuc 0 *ℤ pos (suc k) ≡ negsuc k
-turned_divisor k = omega (arith, ints)
-
-pub quotient_back : (x d q : ℤ) → unsigned_abs d ∣ unsigned_abs x → q ≡ int_div x d → d *ℤ q ≡ x
-quotient_back x (pos g) q h e = ap (λ z. pos g *ℤ z) e ∙ int_div_exact x g h
-quotient_back x (negsuc k) q h e = ap (λ z. negsuc k *ℤ z) e ∙ ap₂ ◌*ℤ◌ (sym (turned_divisor k)) (sym (quotient_turned x k)) ∙ number_back (negsuc 0) (suc k) x refl h
-
--- a quotient is no greater
-pub quotient_fits : (x d : ℤ) → ¬ (d ≡ pos 0) → FitsNumber x → unsigned_abs d ∣ unsigned_abs x → FitsNumber (int_div x d)
-quotient_fits x d n h v = go (unsigned_abs d) (unsigned_abs (int_div x d)) (sym (unsigned_abs-mul d (int_div x d)) ∙ ap unsigned_abs (quotient_back x d (int_div x d) v refl)) (λ e. n (unsigned_abs_zero d e))
-  where
-    go : (a b : ℕ) → a * b ≡ unsigned_abs x → ¬ (a ≡ 0) → b < 2 ^ 127
-    go zero b e n = absurd (n refl)
-    go (suc a) b e n = let k : b + a * b ≡ unsigned_abs x = more a b ∙ e in let l : unsigned_abs x < 2 ^ 127 = h in omega arith
-      where
-        more : (a b : ℕ) → b + a * b ≡ suc a * b
-        more a b = omega arith

@@ -27,7 +27,7 @@ use Rattle.lie_systems.specs.Laws.{DividesMonomial, DividesMonomials, DividesNum
 use Rattle.lie_systems.specs.Normalised.{content, common_monomial, first_sign, without_factor, primitive, primitive_of, derivative_alone}
 use Rattle.lie_systems.proofs.Divisibility.{all_divided, all_common, size-sign}
 use Rattle.lie_systems.proofs.Exponents.{factor_back}
-use Rattle.lie_systems.proofs.Normalised.{first_of, signed_content, signed_content_apart, primitive_part, times-primitive_part}
+use Rattle.lie_systems.proofs.Normalised.{first_of, signed_content, signed_content_apart, primitive_part, times-primitive_part, size-signed_content}
 use Rattle.lie_systems.proofs.Triples.{each_times, list-times_form, sum_of_triples-triples}
 use Rattle.lie_systems.proofs.Unique.{times_form-cancel}
 use Rattle.lie_lin.specs.Forms.{coefficients_of, AreCoefficients}
@@ -36,7 +36,10 @@ use Rattle.std.specs.declared.result.Result.{Result}
 use Rattle.lie_ring.specs.Entries.{entries}
 use Rattle.lie_ring.specs.declared.failures.PolyFail.{PolyFail}
 use Rattle.lie_lin.specs.Powers.{IsDividedTerm}
-use Rattle.lie_lin.proofs.Forms.{entries_same}
+use Rattle.lie_lin.proofs.Forms.{coefficients_of-append}
+use Rattle.lie_poly.proofs.TimesSteps.{times-append}
+use Rattle.lie_jet.proofs.TotalParts.{entries_same}
+use Rattle.lie_ring.proofs.Fronts.{take_more}
 
 -- ---- lists
 every_front : {X : Type 0} (Q : X → Type 0) (xs ys : List X) → Every Q (xs ++ ys) → Every Q xs
@@ -47,28 +50,9 @@ every_back : {X : Type 0} (Q : X → Type 0) (xs ys : List X) → Every Q (xs ++
 every_back Q [] ys h = h
 every_back Q (x ∷ xs) ys h = every_back Q xs ys h.1
 
-pub every_at : {X : Type 0} (Q : X → Type 0) (xs : List X) (i : ℕ) (x : X) → i < length xs → x ≡ get_or xs i x → Every Q xs → Q x
-every_at Q [] i x lt is h = absurd (omega arith)
-every_at Q (y ∷ xs) zero x lt is h = subst Q (sym is) h.0
-every_at Q (y ∷ xs) (suc i) x lt is h = every_at Q xs i x (omega arith) is h.1
-
-pub take_more : {X : Type 0} (xs : List X) (i : ℕ) (x : X) → i < length xs → x ≡ get_or xs i x → take i xs ++ x ∷ [] ≡ take (i + 1) xs
-take_more xs i x lt is = ap (λ y. take i xs ++ y ∷ []) is ∙ sym (ap (λ n. take n xs) (add-one i) ∙ take-suc xs i x lt)
-
-pub take_all : {X : Type 0} (xs : List X) (i : ℕ) → length xs ≤ i → take i xs ≡ xs
-take_all [] zero le = refl
-take_all [] (suc i) le = refl
-take_all (x ∷ xs) zero le = absurd (omega arith)
-take_all (x ∷ xs) (suc i) le = ap (λ ys. x ∷ ys) (take_all xs i (omega arith))
-
--- ---- the terms of a coefficient
-times_list-append : (m : Monomial) (a : ℤ) (ts us : List (Monomial × ℤ)) → times_list m a (ts ++ us) ≡ times_list m a ts ++ times_list m a us
-times_list-append m a [] us = refl
-times_list-append m a (t ∷ ts) us = ap (λ vs. (m · t.0, a *ℤ t.1) ∷ vs) (times_list-append m a ts us)
-
 pub term_back : (m : Monomial) (a : ℤ) (old new : List (Monomial × ℤ)) (t : Monomial × ℤ) (rest : Monomial) (q : ℤ) → new ≡ old ++ (rest, q) ∷ [] → rest ≡ without_factor m t.0 → a *ℤ q ≡ t.1 → DividesMonomial m t.0 → times_list m a new ≡ times_list m a old ++ t ∷ []
 term_back m a old new t rest q e r n d =
-    ap (times_list m a) e ∙ times_list-append m a old ((rest, q) ∷ [])
+    ap (times_list m a) e ∙ times-append m a old ((rest, q) ∷ [])
     ∙ ap₂ (λ x y. times_list m a old ++ (x, y) ∷ []) (ap (λ x. m · x) r ∙ factor_back m t.0 d) n
 
 coefficient_back : (m : Monomial) (a : ℤ) (out : List (Monomial × ℤ)) (p q : WholePolynomial) → times_list m a out ≡ p.list → q ≡ polynomial_of out → term m a *ᴾ q ≡ p
@@ -90,10 +74,6 @@ divided_at m a (x ∷ es) (suc i) e lt is h k =
     divided_at m a es i e (omega arith) is
     (every_back (λ (t : Triple). unsigned_abs a ∣ unsigned_abs t.2) (triples_with (derivative_of x.0) (x.1).list) (triples_in (coefficients_of es)) h)
     (every_back (λ (t : Triple). DividesMonomial m t.1) (triples_with (derivative_of x.0) (x.1).list) (triples_in (coefficients_of es)) k)
-
-coefficients_of-append : (es fs : List (Der × WholePolynomial)) → coefficients_of (es ++ fs) ≡ coefficients_of es ++ coefficients_of fs
-coefficients_of-append [] fs = refl
-coefficients_of-append (e ∷ es) fs = ap (λ xs. (derivative_of e.0, e.1) ∷ xs) (coefficients_of-append es fs)
 
 each_times-append : (p : WholePolynomial) (es fs : List (Derivative × WholePolynomial)) → each_times p (es ++ fs) ≡ each_times p es ++ each_times p fs
 each_times-append p [] fs = refl
@@ -126,19 +106,8 @@ canonical_factor p (e ∷ es) h =
 pub are_coefficients : (p : WholePolynomial) (new : List (Der × WholePolynomial)) (E : LinearForm) → each_times p (coefficients_of new) ≡ E.list → AreCoefficients new
 are_coefficients p new E e = canonical_factor p (coefficients_of new) (subst (IsCanonical forms) (sym e) E.canonical)
 
--- ---- the term that divides a form
-size-first_sign : (ts : List Triple) → unsigned_abs (first_sign ts) ≡ 1
-size-first_sign [] = refl
-size-first_sign (t ∷ ts) = size-sign t.2
-
-size-signed : (ts : List Triple) → unsigned_abs (signed_content ts) ≡ content ts
-size-signed ts = unsigned_abs-mul (first_sign ts) (pos (content ts)) ∙ ap (λ n. n * content ts) (size-first_sign ts) ∙ once (content ts)
-  where
-    once : (n : ℕ) → 1 * n ≡ n
-    once n = omega arith
-
 pub numbers_divided : (ts us : List Triple) (a : ℤ) → a ≡ signed_content ts → us ≡ ts → DividesNumbers (unsigned_abs a) us
-numbers_divided ts us a e s = subst (DividesNumbers (unsigned_abs a)) (sym s) (subst (λ g. DividesNumbers g ts) (sym (ap unsigned_abs e ∙ size-signed ts)) (all_divided (content ts) ts (dvd_refl (content ts))))
+numbers_divided ts us a e s = subst (DividesNumbers (unsigned_abs a)) (sym s) (subst (λ g. DividesNumbers g ts) (sym (ap unsigned_abs e ∙ size-signed_content ts)) (all_divided (content ts) ts (dvd_refl (content ts))))
 
 pub monomials_divided : (ts us : List Triple) (m : Monomial) → m ≡ common_monomial ts → us ≡ ts → DividesMonomials m us
 monomials_divided ts us m e s = subst (DividesMonomials m) (sym s) (subst (λ n. DividesMonomials n ts) (sym e) (all_common (common_monomial ts) ts (λ v. omega arith)))

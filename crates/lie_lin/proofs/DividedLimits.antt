@@ -27,7 +27,8 @@ use Rattle.lie_ring.specs.declared.failures.PastKind.TheVariants.{Coefficient, E
 use Rattle.lie_ring.specs.declared.failures.PolyFail.{PolyFail}
 use Rattle.lie_ring.specs.declared.failures.PolyFail.TheVariants.{Past, NoMemory}
 use Rattle.lie_poly.specs.Failures.{IsStarved}
-use Rattle.lie_lin.proofs.Forms.{entries_same}
+use Rattle.lie_jet.proofs.Absolutes.{within_starved}
+use Rattle.lie_jet.proofs.TotalParts.{entries_same}
 
 module _ (m : Monomial) (a : ℤ) where
   below_factor : (n : Monomial) (es : List (Monomial × ℤ)) → T (below_all monomial_cmp coefficients (m · n) (times_list m a es)) → T (below_all monomial_cmp coefficients n es)
@@ -69,17 +70,7 @@ module _ (m : Monomial) (a : ℤ) where
         (within_factor es (subst (Every (λ (e : Monomial × ℤ). FitsNumber e.1 × HasLowExponents e.0)) (sym e) (entries_of terms P (λ e. FitsNumber e.1 × HasLowExponents e.0) (λ e is some. (subst FitsNumber is (h.coefficients e.0), h.exponents e.0 (λ z. some (sym is ∙ z)))))))
         (let x = length-absolutes es in let y = length-times m a es in let z = ap length e in let t = h.terms in omega arith)
 
--- what is past a limit is not within
-starved : (fail : PolyFail) (p : WholePolynomial) → IsWithinLimits p → IsCause fail p → IsStarved fail
-starved (Past Coefficient) p h c = let k = h.coefficients c.0 in let l = c.1 in absurd (omega arith)
-starved (Past Exponent) p h c = let k = h.exponents c.0 c.1 c.2.0 in let l = c.2.1 in absurd (omega arith)
-starved (Past Terms) p h c = let k = h.terms in absurd (omega arith)
-starved (Past Order) p h c = absurd c
-starved (Past Unknowns) p h c = absurd c
-starved (Past Width) p h c = absurd c
-starved NoMemory p h c = tt
-
 pub divided_starved : {X : Type 0} (m : Monomial) (a : ℤ) → ¬ (a ≡ pos 0) → (slice out : List (Monomial × ℤ)) (P : WholePolynomial) → IsWithinLimits P → slice ≡ out → times_list m a out ≡ P.list → (r : Result X PolyFail) → IfErr r (λ fail. IsCause fail (polynomial_of (absolutes (entries (λ z. z) slice)))) → IfErr r IsStarved
 divided_starved m a apart slice out P h s e (Ok x) c = tt
 divided_starved m a apart slice out P h s e (Err fail) c =
-    starved fail (polynomial_of (absolutes out)) (factor_within m a apart out P h e) (subst (λ es. IsCause fail (polynomial_of (absolutes es))) (entries_same slice ∙ s) c)
+    within_starved fail (polynomial_of (absolutes out)) (factor_within m a apart out P h e) (subst (λ es. IsCause fail (polynomial_of (absolutes es))) (entries_same slice ∙ s) c)

@@ -25,6 +25,7 @@ use Rattle.lie_jet.specs.declared.derivative.Der.{Der}
 use Rattle.lie_lin.specs.Forms.{IsSumCause, derivatives_of, terms_at, coefficient_at, gathered, AreDerivatives}
 use Rattle.lie_jet.specs.Derivatives.{derivative_of}
 use Rattle.lie_lin.proofs.Gathering.{triples_gathered, terms_at-absolute, covers_absolute}
+use Rattle.lie_jet.proofs.FormCauses.{length-with}
 
 -- ---- some element of a list
 module _ {X : Type 0} (P : X → Type 0) where
@@ -67,10 +68,6 @@ any_at P [] ts i x lt e a = absurd (omega arith)
 any_at P (y ∷ ders) ts zero x lt e a =
     any_left P (triples_with (derivative_of y) (coefficient_at (derivative_of y) ts).list) (triples_in (gathered (derivatives_of ders) ts)) (subst (λ z. Any P (triples_with (derivative_of z) (coefficient_at (derivative_of z) ts).list)) e a)
 any_at P (y ∷ ders) ts (suc i) x lt e a = any_right P (triples_with (derivative_of y) (coefficient_at (derivative_of y) ts).list) (triples_in (gathered (derivatives_of ders) ts)) (any_at P ders ts i x (omega arith) e a)
-
-pub length-with : (d : Derivative) (es : List (Monomial × ℤ)) → length (triples_with d es) ≡ length es
-length-with d [] = refl
-length-with d (e ∷ es) = ap suc (length-with d es)
 
 length_at : (ders : List Der) (ts : List Triple) (i : ℕ) (x : Der) → i < length ders → x ≡ get_or ders i x → length (coefficient_at (derivative_of x) ts).list ≤ length (triples_in (gathered (derivatives_of ders) ts))
 length_at [] ts i x lt e = absurd (omega arith)

@@ -15,10 +15,7 @@ use Rattle.lie_ring.specs.Entries.{entries}
 use Rattle.lie_jet.specs.declared.derivative.Der.{Der}
 use Rattle.lie_lin.specs.Forms.{coefficients_of, AreCoefficients, triples_of}
 use Rattle.lie_jet.specs.Derivatives.{derivative_of}
-
-pub entries_same : (es : List (Monomial × ℤ)) → entries (λ z. z) es ≡ es
-entries_same [] = refl
-entries_same (e ∷ es) = ap (λ xs. e ∷ xs) (entries_same es)
+use Rattle.lie_jet.proofs.FormParts.{triples_in-append}
 
 pub triples_of-append : (xs ys : List (Der × Monomial × ℤ)) → triples_of (xs ++ ys) ≡ triples_of xs ++ triples_of ys
 triples_of-append [] ys = refl
@@ -31,10 +28,6 @@ triples_with-append d (e ∷ es) fs = ap (λ ts. (d, e.0, e.1) ∷ ts) (triples_
 pub coefficients_of-append : (xs ys : List (Der × WholePolynomial)) → coefficients_of (xs ++ ys) ≡ coefficients_of xs ++ coefficients_of ys
 coefficients_of-append [] ys = refl
 coefficients_of-append (x ∷ xs) ys = ap (λ es. (derivative_of x.0, x.1) ∷ es) (coefficients_of-append xs ys)
-
-pub triples_in-append : (es fs : List (Derivative × WholePolynomial)) → triples_in (es ++ fs) ≡ triples_in es ++ triples_in fs
-triples_in-append [] fs = refl
-triples_in-append (e ∷ es) fs = ap (λ ts. triples_with e.0 e.1.list ++ ts) (triples_in-append es fs) ∙ sym (append_assoc (triples_with e.0 e.1.list) (triples_in es) (triples_in fs))
 
 -- ---- a kept form
 pub list_of_kept : (es : List (Der × WholePolynomial)) (E : LinearForm) → AreCoefficients es → finite.of forms (coefficients_of es) ≡ E → E.list ≡ coefficients_of es

@@ -168,7 +168,3 @@ unless_zero_some d p n = go p.list n
     go : (es : List (Monomial × ℤ)) → ¬ (length es ≡ 0) → cond {A = List (Derivative × WholePolynomial)} (finite.list_is_empty es) [] ((d, p) ∷ []) ≡ (d, p) ∷ []
     go [] n = absurd (n refl)
     go (x ∷ es) n = refl
-
-pub absolutes_twice : (es : List (Monomial × ℤ)) → absolutes (absolutes es) ≡ absolutes es
-absolutes_twice [] = refl
-absolutes_twice (e ∷ es) = ap (λ xs. (e.0, pos (unsigned_abs e.1)) ∷ xs) (absolutes_twice es)

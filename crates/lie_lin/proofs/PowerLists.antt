@@ -12,7 +12,7 @@ use Rattle.lie_math.specs.FiniteSum.{IsCanonical}
 use Rattle.lie_math.proofs.CanonicalLists.{canonical_below, canonical_tail, canonical_cons}
 use Rattle.lie_systems.specs.Normalised.{each_exponent}
 use Rattle.lie_lin.specs.Powers.{power_unless_zero}
-use Rattle.lie_lin.proofs.DividedForms.{take_all}
+use Rattle.lie_ring.proofs.Fronts.{all_taken}
 
 -- each exponent changed, without those that become 0
 abbrev pub changed : (ℕ → ℕ → ℕ) → List (ℕ × ℕ) → List (ℕ × ℕ)
@@ -66,7 +66,7 @@ module _ (f : ℕ → ℕ → ℕ) where
 
   pub made : (m : Monomial) (ps out : List (ℕ × ℕ)) (i : ℕ) → ps ≡ m.list → length ps ≤ i → out ≡ changed f (take i ps) → IsCanonical powers out × (monomial_of out ≡ each_exponent f m)
   made m ps out i e le is =
-      let all : out ≡ changed f ps = is ∙ ap (changed f) (take_all ps i le) in (
+      let all : out ≡ changed f ps = is ∙ ap (changed f) (all_taken ps i le) in (
         subst (IsCanonical powers) (sym all) (canonical_changed ps (subst (IsCanonical powers) (sym e) m.canonical)),
         ap monomial_of all ∙ product_changed m ps e,
       )

@@ -16,10 +16,11 @@ use Rattle.lie_ring.specs.declared.failures.PolyFail.{PolyFail}
 use Rattle.lie_jet.specs.declared.derivative.Der.{Der}
 use Rattle.lie_lin.specs.Forms.{IsSumCause, derivatives_of, terms_at, coefficient_at, gathered, unless_zero, kept, AreDerivatives}
 use Rattle.lie_jet.specs.Derivatives.{derivative_of}
-use Rattle.lie_lin.proofs.Forms.{triples_in-append}
 use Rattle.lie_lin.proofs.Placing.{derivatives_of-append}
 use Rattle.lie_lin.proofs.Gathering.{gathered-append, kept-push, terms_at-absolute, canonical_kept, sum_is_kept}
-use Rattle.lie_lin.proofs.FormLimits.{cause_of_part, within_of_parts, many_of_parts, length-with}
+use Rattle.lie_lin.proofs.FormLimits.{cause_of_part, within_of_parts, many_of_parts}
+use Rattle.lie_jet.proofs.FormParts.{triples_in-append}
+use Rattle.lie_jet.proofs.FormCauses.{length-with}
 
 get_same : (ders : List Der) (i : ℕ) (d e : Der) → i < length ders → get_or ders i d ≡ get_or ders i e
 get_same [] i d e lt = absurd (omega arith)

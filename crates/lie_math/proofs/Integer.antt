@@ -49,3 +49,6 @@ not_zero n h e = let k : n ≡ 0 = ap unsigned_abs e in omega arith
 
 pub product_not_zero : (a b : ℤ) → ¬ (a ≡ pos 0) → ¬ (b ≡ pos 0) → ¬ (a *ℤ b ≡ pos 0)
 product_not_zero a b n m e = m (no_zero_divisors_ℤ a b n e)
+
+pub one_not_zero : ¬ (pos 1 ≡ pos 0)
+one_not_zero = not_zero 1 (omega arith)

@@ -4,11 +4,11 @@ use Rattle.std.proofs.Common.{refl, sym, ap, ap₂, ◌∙◌, arith, is_eq, Ord
 use Rattle.std.specs.Ordering.{eq_by_cmp, nat_cmp, ordering_then}
 use Rattle.std.specs.Cmp.{tied_itself, nat_cmp_total}
 use Rattle.std.specs.Cmp.Lexicographic.{slice_cmp}
-use Rattle.lie_math.specs.Natural.{naturals}
+use Rattle.lie_math.specs.Natural.{naturals, nat_idl}
 use Rattle.lie_math.specs.SortedSum.{sum_of_entries}
-use Rattle.lie_math.specs.Monomial.{Monomial, ◌·◌, exponent, single, power_of, monomial_cmp, monomial_of, pair_cmp, powers}
+use Rattle.lie_math.specs.Monomial.{Monomial, ◌·◌, exponent, single, power_of, monomial_cmp, monomial_of, pair_cmp, powers, unit}
 use Rattle.lie_math.specs.FiniteSum.{IsCanonical}
-use Rattle.lie_math.specs.MonomialOrder.{monomial_cmp_total}
+use Rattle.lie_math.specs.MonomialOrder.{monomial_cmp_total, ·_comm, ·_idl}
 use Rattle.lie_math.specs.FiniteSumLaws.{value-plus, value-term, ext}
 use Rattle.lie_math.proofs.FiniteSum.{value-put, key}
 use Rattle.lie_math.specs.PartialDerivative.{lower}
@@ -96,9 +96,6 @@ exponent_bared v m = exponent-bare v m v ∙ ap (λ t. cond t 0 (exponent m v)) 
 pub exponent_powered : (v e : ℕ) (m : Monomial) → exponent (power_of v e · m) v ≡ e + exponent m v
 exponent_powered v e m = exponent-· (power_of v e) m v ∙ ap (λ k. k + exponent m v) (exponent-power_of v e v ∙ ap (λ t. cond t e 0) (same_variable v))
 
-pub zero_plus : (n : ℕ) → 0 + n ≡ n
-zero_plus n = omega arith
-
 pub plus_zero : (n : ℕ) → n + 0 ≡ n
 plus_zero n = omega arith
 
@@ -108,11 +105,14 @@ powered_bare v e m h = ext powers (power_of v e · bare v m) m (λ q. exponent-�
   where
     go : (q : ℕ) (t : Bool) → eq_by_cmp nat_cmp q v ≡ t → cond t e 0 + cond t 0 (exponent m q) ≡ exponent m q
     go q true k = plus_zero e ∙ sym h ∙ sym (ap (exponent m) (key powers q v k))
-    go q false k = zero_plus (exponent m q)
+    go q false k = nat_idl (exponent m q)
 
 pub bare_powered : (v e : ℕ) (n : Monomial) → exponent n v ≡ 0 → bare v (power_of v e · n) ≡ n
 bare_powered v e n h = ext powers (bare v (power_of v e · n)) n (λ q. exponent-bare v (power_of v e · n) q ∙ go q (eq_by_cmp nat_cmp q v) refl)
   where
     go : (q : ℕ) (t : Bool) → eq_by_cmp nat_cmp q v ≡ t → cond t 0 (exponent (power_of v e · n) q) ≡ exponent n q
     go q true k = sym h ∙ sym (ap (exponent n) (key powers q v k))
-    go q false k = exponent-· (power_of v e) n q ∙ ap (λ x. x + exponent n q) (exponent-power_of v e q ∙ ap (λ t. cond t e 0) k) ∙ zero_plus (exponent n q)
+    go q false k = exponent-· (power_of v e) n q ∙ ap (λ x. x + exponent n q) (exponent-power_of v e q ∙ ap (λ t. cond t e 0) k) ∙ nat_idl (exponent n q)
+
+pub ·_idr : (m : Monomial) → m · unit ≡ m
+·_idr m = ·_comm m unit ∙ ·_idl m

@@ -24,7 +24,7 @@ partial_is_derivation v = record {
   whole = λ c. partial-term v unit c ∙ ap (λ e. term (lower v unit) (c *ℤ pos e)) (value-none powers v) ∙ ap (term (lower v unit)) (*ℤ-zero c) ∙ (term_additive terms).on_nil (lower v unit);
 }
 
-same_key : (v w : ℕ) → v ≡ w → eq_by_cmp nat_cmp v w ≡ true
+pub same_key : (v w : ℕ) → v ≡ w → eq_by_cmp nat_cmp v w ≡ true
 same_key v w e = subst (λ z. eq_by_cmp nat_cmp v z ≡ true) e (ap Rattle.std.proofs.Common.is_eq (tied_itself powers.total v))
 
 other_key : (v w : ℕ) → (v ≡ w → ⊥) → eq_by_cmp nat_cmp v w ≡ false

@@ -55,8 +55,8 @@ lower-· v x m n h = ext powers (lower v (m · n)) (lower v m · n) (λ q.
     ∙ ap (λ z. z + exponent n q) (sym (value-put powers v _ m q ∙ tied q v (λ w. exponent m w - 1) (λ w. exponent m w)))
     ∙ sym (value-plus powers (lower v m) n q))
 
-inner : (c d e : ℤ) → (c *ℤ d) *ℤ e ≡ (c *ℤ e) *ℤ d
-inner c d e = *ℤ_assoc c d e ∙ ap (λ x. c *ℤ x) (*ℤ_comm d e) ∙ sym (*ℤ_assoc c e d)
+pub last_factors_swap : (c d e : ℤ) → (c *ℤ d) *ℤ e ≡ (c *ℤ e) *ℤ d
+last_factors_swap c d e = *ℤ_assoc c d e ∙ ap (λ x. c *ℤ x) (*ℤ_comm d e) ∙ sym (*ℤ_assoc c e d)
 
 -- the derivative of a product of two terms, by whether v occurs in the factors
 module _ (v : ℕ) (m n : Monomial) (a b : ℤ) where
@@ -66,15 +66,15 @@ module _ (v : ℕ) (m n : Monomial) (a b : ℤ) where
   product_by : (e f : ℕ) → exponent m v ≡ e → exponent n v ≡ f → term (lower v (m · n)) ((a *ℤ b) *ℤ pos (e + f)) ≡ term (lower v m · n) ((a *ℤ pos e) *ℤ b) +ᴾ term (m · lower v n) (a *ℤ (b *ℤ pos f))
   product_by zero zero p q =
       vanish (lower v (m · n)) (a *ℤ b)
-      ∙ sym (ap₂ ◌+ᴾ◌ (ap (term (lower v m · n)) (inner a (pos 0) b) ∙ vanish (lower v m · n) (a *ℤ b)) (ap (term (m · lower v n)) (sym (*ℤ_assoc a b (pos 0))) ∙ vanish (m · lower v n) (a *ℤ b)) ∙ finite_laws.plus_idl terms 0ᴾ)
+      ∙ sym (ap₂ ◌+ᴾ◌ (ap (term (lower v m · n)) (last_factors_swap a (pos 0) b) ∙ vanish (lower v m · n) (a *ℤ b)) (ap (term (m · lower v n)) (sym (*ℤ_assoc a b (pos 0))) ∙ vanish (m · lower v n) (a *ℤ b)) ∙ finite_laws.plus_idl terms 0ᴾ)
   product_by zero (suc y) p q =
       ap₂ term (ap (lower v) (·_comm m n) ∙ lower-· v y n m q ∙ ·_comm (lower v n) m) (*ℤ_assoc a b (pos (0 + suc y)) ∙ ap (λ k. a *ℤ (b *ℤ pos k)) (plain y))
-      ∙ sym (ap (λ x. x +ᴾ term (m · lower v n) (a *ℤ (b *ℤ pos (suc y)))) (ap (term (lower v m · n)) (inner a (pos 0) b) ∙ vanish (lower v m · n) (a *ℤ b)) ∙ finite_laws.plus_idl terms _)
+      ∙ sym (ap (λ x. x +ᴾ term (m · lower v n) (a *ℤ (b *ℤ pos (suc y)))) (ap (term (lower v m · n)) (last_factors_swap a (pos 0) b) ∙ vanish (lower v m · n) (a *ℤ b)) ∙ finite_laws.plus_idl terms _)
     where
       plain : (y : ℕ) → 0 + suc y ≡ suc y
       plain y = omega arith
   product_by (suc x) zero p q =
-      ap₂ term (lower-· v x m n p) (ap (λ k. (a *ℤ b) *ℤ pos k) (plain x) ∙ inner a b (pos (suc x)))
+      ap₂ term (lower-· v x m n p) (ap (λ k. (a *ℤ b) *ℤ pos k) (plain x) ∙ last_factors_swap a b (pos (suc x)))
       ∙ sym (ap (λ z. term (lower v m · n) ((a *ℤ pos (suc x)) *ℤ b) +ᴾ z) (ap (term (m · lower v n)) (sym (*ℤ_assoc a b (pos 0))) ∙ vanish (m · lower v n) (a *ℤ b)) ∙ finite_laws.plus_comm terms _ 0ᴾ ∙ finite_laws.plus_idl terms _)
     where
       plain : (x : ℕ) → suc x + 0 ≡ suc x
@@ -82,7 +82,7 @@ module _ (v : ℕ) (m n : Monomial) (a b : ℤ) where
   product_by (suc x) (suc y) p q =
       ap (term (lower v (m · n))) (*ℤ-distl (a *ℤ b) (pos (suc x)) (pos (suc y)))
       ∙ (term_additive terms).on_plus (lower v (m · n)) _ _
-      ∙ ap₂ ◌+ᴾ◌ (ap₂ term (lower-· v x m n p) (inner a b (pos (suc x)))) (ap₂ term (ap (lower v) (·_comm m n) ∙ lower-· v y n m q ∙ ·_comm (lower v n) m) (*ℤ_assoc a b (pos (suc y))))
+      ∙ ap₂ ◌+ᴾ◌ (ap₂ term (lower-· v x m n p) (last_factors_swap a b (pos (suc x)))) (ap₂ term (ap (lower v) (·_comm m n) ∙ lower-· v y n m q ∙ ·_comm (lower v n) m) (*ℤ_assoc a b (pos (suc y))))
 
   pub product_term : partial v (term (m · n) (a *ℤ b)) ≡ term (lower v m · n) ((a *ℤ pos (exponent m v)) *ℤ b) +ᴾ term (m · lower v n) (a *ℤ (b *ℤ pos (exponent n v)))
   product_term =
@@ -134,7 +134,7 @@ lower_commutes v w apart m = ext powers (lower v (lower w m)) (lower w (lower v 
 pub partial_comm_apart : (v w : ℕ) → (v ≡ w → ⊥) → (p : WholePolynomial) → partial v (partial w p) ≡ partial w (partial v p)
 unfolding partial
 partial_comm_apart v w apart p = twice v w p ∙ ap (λ φ. over_terms φ p) (fun_ext (λ m. fun_ext (λ a.
-    ap₂ term (lower_commutes v w apart m) (ap (λ e. (a *ℤ pos (exponent m w)) *ℤ pos e) (keeps w v (λ e. apart (sym e)) m) ∙ inner a (pos (exponent m w)) (pos (exponent m v)) ∙ ap (λ e. (a *ℤ pos (exponent m v)) *ℤ pos e) (sym (keeps v w apart m))))))
+    ap₂ term (lower_commutes v w apart m) (ap (λ e. (a *ℤ pos (exponent m w)) *ℤ pos e) (keeps w v (λ e. apart (sym e)) m) ∙ last_factors_swap a (pos (exponent m w)) (pos (exponent m v)) ∙ ap (λ e. (a *ℤ pos (exponent m v)) *ℤ pos e) (sym (keeps v w apart m))))))
     ∙ sym (twice w v p)
   where
     twice : (v w : ℕ) (p : WholePolynomial) → partial v (partial w p) ≡ over_terms (λ m a. term (lower v (lower w m)) ((a *ℤ pos (exponent m w)) *ℤ pos (exponent (lower w m) v))) p

@@ -9,13 +9,14 @@ use Rattle.lie_math.specs.Canonical.{sum_of_entries-map, sum_of_entries-nil}
 use Rattle.lie_math.specs.FiniteSumLaws.{value-plus, value-term, value-none, ext, sum-plus, sum-none, sum-term, term_additive, plus_idl}
 use Rattle.lie_math.proofs.FiniteSum.{key, sum_of_entries-same, entries_of}
 use Rattle.lie_math.specs.Monomial.{Monomial, ◌·◌, exponent, powers, monomial_cmp, power_of}
-use Rattle.lie_math.proofs.Monomial.{exponent-·, same_monomial, bare, exponent-bare, exponent_bared, exponent_powered, powered_bare, bare_powered, zero_plus, plus_zero}
+use Rattle.lie_math.proofs.Monomial.{exponent-·, same_monomial, bare, exponent-bare, exponent_bared, exponent_powered, powered_bare, bare_powered, plus_zero}
 use Rattle.lie_math.specs.Polynomial.{WholePolynomial, polynomials, terms, term, coefficient, 0ᴾ, ◌*ᴾ◌, ◌+ᴾ◌}
 use Rattle.lie_math.specs.Integer.{integers}
 use Rattle.lie_math.specs.PolynomialRing.{term-*ᴾ, +ᴾ-*ᴾ, 0ᴾ-*ᴾ, AdditiveOnTerms}
 use Rattle.lie_math.specs.PartialDerivative.{partial}
 use Rattle.lie_math.specs.Powers.{power_coefficient}
 use Rattle.lie_math.proofs.Dependence.{free_of_partial}
+use Rattle.lie_math.specs.Natural.{nat_idl}
 
 pub coefficient-power_coefficient : (v i : ℕ) (p : WholePolynomial) (n : Monomial) → coefficient (power_coefficient v i p) n ≡ cond (eqb (exponent n v) 0) (coefficient p (power_of v i · n)) (pos 0)
 unfolding power_coefficient
@@ -78,7 +79,7 @@ pub bare-· : (v : ℕ) (m n : Monomial) → exponent n v ≡ 0 → bare v (m ·
 bare-· v m n h = ext powers (bare v (m · n)) (bare v m · n) (λ q. exponent-bare v (m · n) q ∙ ap (λ x. cond (eq_by_cmp nat_cmp q v) 0 x) (exponent-· m n q) ∙ go q (eq_by_cmp nat_cmp q v) refl ∙ ap (λ x. x + exponent n q) (sym (exponent-bare v m q)) ∙ sym (exponent-· (bare v m) n q))
   where
     go : (q : ℕ) (t : Bool) → eq_by_cmp nat_cmp q v ≡ t → cond t 0 (exponent m q + exponent n q) ≡ cond t 0 (exponent m q) + exponent n q
-    go q true k = sym (zero_plus (exponent n q) ∙ ap (exponent n) (key powers q v k) ∙ h)
+    go q true k = sym (nat_idl (exponent n q) ∙ ap (exponent n) (key powers q v k) ∙ h)
     go q false k = refl
 
 -- a factor without v stays

@@ -103,7 +103,7 @@ by_lists (p ∷ ps) (q ∷ qs) c d s e = go (nat_cmp p.0 q.0) (nat_cmp q.1 p.1) 
     go Equal Greater is k f ih = absurd (true≢false (ap is_gt f))
     go Greater t gt k f ih = absurd (true≢false (ap is_gt f))
 
-abbrev IsBefore : Monomial → Monomial → Type 0
+abbrev pub IsBefore : Monomial → Monomial → Type 0
 IsBefore m n = (degree n < degree m) ⊎ ((degree m ≡ degree n) × HasFirstGreater m n)
 
 in_words : (m n : Monomial) → monomial_cmp m n ≡ Less → IsBefore m n

@@ -1,6 +1,6 @@
 -- The worked values, by computing, and what the system f_x = 0 gives.
 use Rattle.std.specs.Prelude.{◌≡◌, ℕ, zero, suc, [], ◌∷◌, get_or, pos}
-use Rattle.std.proofs.Common.{refl, sym, ap, ◌∙◌, arith, true≢false}
+use Rattle.std.proofs.Common.{refl, sym, ap, ◌∙◌, arith}
 use Rattle.lie_math.specs.FiniteSum as finite
 use Rattle.lie_math.specs.FiniteSumLaws.{same_list}
 use Rattle.lie_math.specs.Polynomial.{WholePolynomial, terms, constant, variable, 0ᴾ, ◌*ᴾ◌}
@@ -16,6 +16,7 @@ use Rattle.lie_math.proofs.RationalPolynomial.{same_rational-multiple, same_rati
 use Rattle.lie_math.specs.LinearSystem.{Gives, has}
 use Rattle.lie_math.specs.LinearForm.{apply, no_form}
 use Rattle.lie_math.specs.WorkedValues.{SquareOfSum, OrderOfTerms, DerivativeOfSum, CoefficientOfX, HalfOfX, constant_system, ConstantFieldsGiven}
+use Rattle.lie_math.proofs.Limits.{one_apart}
 
 pub square_of_sum : SquareOfSum
 unfolding ◌*ᴾ◌ finite.of finite.plus finite.none finite.term
@@ -35,11 +36,6 @@ coefficient_of_x = same_list terms _ _ refl
 
 pub half_of_x : HalfOfX
 half_of_x = same_rational-swapped (record { over = 4; whole = constant (pos 2) *ᴾ variable 0 }) (record { over = 2; whole = variable 0 }) (same_rational-multiple 2 (record { over = 2; whole = variable 0 }))
-
--- ---- the system f_x = 0
-one_is_not_zero : ¬ (constant (pos 1) ≡ 0ᴾ)
-unfolding finite.of finite.none finite.term
-one_is_not_zero e = true≢false (sym (ap (finite.is_none terms) e))
 
 given : Gives constant_system (record { denominator = 2; parts = constant (pos 3) ∷ [] })
 given = record {
@@ -66,7 +62,7 @@ not_given g =
     let M : WholePolynomial = constant (pos g.multiple) in
     let value : F 1 ≡ M *ᴾ variable 0 = sym (one-*ᴾ (F 1)) ∙ ap (λ p. constant (pos 1) *ᴾ p) (sym (apply_unknown F 1)) ∙ sym (g.same 0) in
     let solved : partial 0 (F 1) ≡ 0ᴾ = sym (one-*ᴾ (partial 0 (F 1))) ∙ sym (apply_term F (record { unknown = 1; counts = 1 ∷ [] }) (constant (pos 1))) ∙ (g.solves.solves).0 in
-    one_is_not_zero (torsion (pos g.multiple) (not_zero g.multiple g.positive) (constant (pos 1)) (
+    one_apart (torsion (pos g.multiple) (not_zero g.multiple g.positive) (constant (pos 1)) (
     ap (λ p. M *ᴾ p) (sym (partial-itself 0)) ∙ sym (partial-constant_times 0 (pos g.multiple) (variable 0)) ∙ ap (partial 0) (sym value) ∙ solved))
 
 pub constant_fields_given : ConstantFieldsGiven

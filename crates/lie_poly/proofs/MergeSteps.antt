@@ -32,7 +32,7 @@ bulk_append [] ys (f ∷ fs) gs h k = absurd h
 bulk_append (x ∷ xs) ys [] gs h k = absurd h
 bulk_append (x ∷ xs) ys (f ∷ fs) gs h k = (h.0, h.1, h.2, bulk_append xs ys fs gs h.3 k)
 
-within_append : (xs ys : List (Monomial × ℤ)) → AreWithin xs → AreWithin ys → AreWithin (xs ++ ys)
+pub within_append : (xs ys : List (Monomial × ℤ)) → AreWithin xs → AreWithin ys → AreWithin (xs ++ ys)
 within_append [] ys h k = k
 within_append (x ∷ xs) ys h k = (h.0, h.1, within_append xs ys h.2 k)
 

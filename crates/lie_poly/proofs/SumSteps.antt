@@ -1,14 +1,13 @@
 -- How a sum of terms is told by tallies.
-use Rattle.std.proofs.Common.{◌≡◌, ℕ, ◌-◌, ◌<◌, ◌≤◌, ◌^◌, List, [], ◌∷◌, ◌++◌, length, take, drop, get_or, reverse, refl, sym, ap, ap₂, ◌∙◌, subst, subst₂, arith, not, T, ℤ, pos}
+use Rattle.std.proofs.Common.{◌≡◌, ℕ, ◌-◌, ◌<◌, ◌≤◌, ◌^◌, List, [], ◌∷◌, ◌++◌, length, take, drop, get_or, reverse, refl, sym, ap, ap₂, ◌∙◌, subst, subst₂, arith, ℤ, pos}
 use Rattle.std.proofs.lemmas.Grind.{common_steps}
 use Rattle.std.specs.Prelude.{unsigned_abs}
 use Rattle.lie_math.specs.Monomial.{Monomial}
-use Rattle.lie_math.specs.Integer.{is_zero_int, int_nil}
 use Rattle.lie_math.specs.Polynomial.{WholePolynomial, polynomial_of, terms, ◌+ᴾ◌}
 use Rattle.lie_math.specs.Limits.{FitsNumber, HasLowExponents, absolutes}
 use Rattle.lie_math.proofs.Integer.{unsigned_abs_zero}
 use Rattle.lie_math.proofs.CanonicalLists.{of-append, canonical_cons}
-use Rattle.lie_math.proofs.Limits.{IsCovered, covered_first, covered_second, nonneg_absolutes, absolutes-append, by_test}
+use Rattle.lie_math.proofs.Limits.{IsCovered, covered_first, covered_second, nonneg_absolutes, absolutes-append}
 use Rattle.lie_ring.proofs.Limits.{wide_covered, high_covered, many_covered}
 use Rattle.lie_ring.specs.declared.failures.PastKind.TheVariants.{Coefficient, Exponent, Terms, Order, Unknowns, Width}
 use Rattle.lie_ring.specs.declared.failures.PolyFail.{PolyFail}
@@ -19,6 +18,8 @@ use Rattle.lie_poly.specs.declared.tally.Tally.{Tally}
 use Rattle.lie_poly.specs.Tallies.{sum_of, bulk_of, Tells}
 use Rattle.lie_poly.proofs.TermLists.{entries-append}
 use Rattle.lie_poly.proofs.TallyLists.{zeros_sum}
+use Rattle.lie_math.proofs.TermWise.{not_zero_test}
+use Rattle.std.proofs.lemmas.List.{take_rest}
 
 -- what is past in a part is past in the whole
 pub cause_covered : (fail : PolyFail) (p b : WholePolynomial) → IsCovered p b → IsCause fail p → IsCause fail b
@@ -30,17 +31,8 @@ cause_covered (Past Unknowns) p b c h = absurd h
 cause_covered (Past Width) p b c h = absurd h
 cause_covered NoMemory p b c h = tt
 
-pub is_zero_of_size : (z : ℤ) → unsigned_abs z ≡ 0 → z ≡ pos 0
-is_zero_of_size = unsigned_abs_zero
-
 pub not_zero_of_size : (z : ℤ) → ¬ (unsigned_abs z ≡ 0) → ¬ (z ≡ pos 0)
 not_zero_of_size z n e = n (ap unsigned_abs e)
-
-not_zero_test : (z : ℤ) → ¬ (z ≡ pos 0) → T (not (is_zero_int z))
-not_zero_test z n = by_test (is_zero_int z) (λ e. n (int_nil z e))
-
-all_rest : {A : Type 0} (xs : List A) (i : ℕ) → take (length xs - i) (drop i xs) ≡ drop i xs
-all_rest xs i = grind (arith, common_steps)
 
 both_parts : {A : Type 0} (xs : List A) (i : ℕ) → take i xs ++ drop i xs ≡ xs
 both_parts xs i = grind (arith, common_steps)
@@ -57,7 +49,7 @@ module _ {C : Type 0} (value : C → ℤ) where
 
   pub tells_zero : (m : Monomial) (z : ℤ) → unsigned_abs z ≡ 0 → Tells value [] (polynomial_of ((m, z) ∷ [])) (polynomial_of ((m, pos (unsigned_abs z)) ∷ []))
   tells_zero m z e =
-      let zero : z ≡ pos 0 = is_zero_of_size z e in
+      let zero : z ≡ pos 0 = unsigned_abs_zero z e in
       let none : polynomial_of [] ≡ polynomial_of ((m, pos 0) ∷ []) = zeros_sum ((m, pos 0) ∷ []) in
       tells_same [] (polynomial_of []) (polynomial_of ((m, z) ∷ [])) (polynomial_of []) (polynomial_of ((m, pos (unsigned_abs z)) ∷ []))
       (none ∙ ap (λ y. polynomial_of ((m, y) ∷ [])) (sym zero)) (none ∙ ap (λ n. polynomial_of ((m, pos n) ∷ [])) (sym e)) tells_none
@@ -84,7 +76,7 @@ module _ {C : Type 0} (value : C → ℤ) where
     upper_half = entries value (take (length xs - i) (drop i xs))
 
     pub halves : entries value xs ≡ lower_half ++ upper_half
-    halves = sym (ap (λ b. entries value (take i xs) ++ entries value b) (all_rest xs i) ∙ sym (entries-append value (take i xs) (drop i xs)) ∙ ap (entries value) (both_parts xs i))
+    halves = sym (ap (λ b. entries value (take i xs) ++ entries value b) (take_rest xs i) ∙ sym (entries-append value (take i xs) (drop i xs)) ∙ ap (entries value) (both_parts xs i))
 
     pub halves_sum : polynomial_of lower_half +ᴾ polynomial_of upper_half ≡ polynomial_of (entries value xs)
     halves_sum = sym (of-append terms lower_half upper_half) ∙ ap polynomial_of (sym halves)

@@ -3,13 +3,12 @@ use Rattle.std.proofs.Common.{◌≡◌, ℕ, zero, suc, ◌<◌, ◌≤◌, Lis
 use Rattle.std.proofs.lemmas.List.{reverse-reverse}
 use Rattle.std.proofs.lemmas.Grind.{common_steps}
 use Rattle.std.specs.Prelude.{unsigned_abs}
-use Rattle.lie_math.specs.FiniteSum as finite
 use Rattle.lie_math.specs.Monomial.{Monomial, ◌·◌}
-use Rattle.lie_math.specs.Polynomial.{WholePolynomial, polynomial_of, terms, term, constant, 0ᴾ, ◌+ᴾ◌, ◌*ᴾ◌}
-use Rattle.lie_math.specs.PolynomialRing.{+ᴾ-*ᴾ, 0ᴾ-*ᴾ, one-*ᴾ}
+use Rattle.lie_math.specs.Polynomial.{WholePolynomial, polynomial_of, terms, term, constant, ◌+ᴾ◌, ◌*ᴾ◌}
+use Rattle.lie_math.specs.PolynomialRing.{+ᴾ-*ᴾ, 0ᴾ-*ᴾ, one-*ᴾ, polynomial_of-none}
 use Rattle.lie_math.specs.Limits.{FitsNumber, HasLowExponents, absolutes}
 use Rattle.lie_poly.specs.Bulk.{IsBulkOf, AreWithin}
-use Rattle.lie_math.proofs.Integer.{no_zero_divisors_ℤ}
+use Rattle.lie_math.proofs.Integer.{no_zero_divisors_ℤ, unsigned_abs_zero}
 use Rattle.lie_math.specs.FiniteSum.{IsCanonical}
 use Rattle.lie_math.proofs.CanonicalLists.{of-cons, canonical_value, canonical_tail}
 use Rattle.lie_math.proofs.Limits.{IsCovered, IsNonNegative, covered_first, covered_second, nonneg_sum, nonneg_none, nonneg_absolutes, absolutes-append, canonical_absolutes, length-absolutes, term_is}
@@ -27,25 +26,15 @@ use Rattle.lie_poly.specs.Failures.{IsTermCause, IsFull}
 use Rattle.lie_poly.specs.Tallies.{sums, sizes, Tells}
 use Rattle.lie_poly.proofs.TermLists.{length-entries, get-entries}
 use Rattle.lie_poly.proofs.TallyLists.{sums-append, sizes-append, length-sizes}
-use Rattle.lie_poly.proofs.SumSteps.{cause_covered, is_zero_of_size, not_zero_of_size, tells_none, tells_same, lower_half, upper_half, halves_sum, halves_bulk}
+use Rattle.lie_poly.proofs.SumSteps.{cause_covered, not_zero_of_size, tells_none, tells_same, lower_half, upper_half, halves_sum, halves_bulk}
+use Rattle.lie_poly.proofs.MergeSteps.{within_append}
 
 pub length-take_in : {A : Type 0} (xs : List A) (i : ℕ) → i ≤ length xs → length (take i xs) ≡ i
 length-take_in xs i h = grind (arith, common_steps)
 
-pub all_taken : {A : Type 0} (xs : List A) (i : ℕ) → length xs ≤ i → take i xs ≡ xs
-all_taken xs i h = grind (arith, common_steps)
-
-none_is : polynomial_of [] ≡ 0ᴾ
-unfolding finite.none
-none_is = refl
-
-times-append : (m : Monomial) (c : ℤ) (es fs : List (Monomial × ℤ)) → times_list m c (es ++ fs) ≡ times_list m c es ++ times_list m c fs
+pub times-append : (m : Monomial) (c : ℤ) (es fs : List (Monomial × ℤ)) → times_list m c (es ++ fs) ≡ times_list m c es ++ times_list m c fs
 times-append m c [] fs = refl
 times-append m c (e ∷ es) fs = ap (λ gs. (m · e.0, c *ℤ e.1) ∷ gs) (times-append m c es fs)
-
-within_more : (xs ys : List (Monomial × ℤ)) → AreWithin xs → AreWithin ys → AreWithin (xs ++ ys)
-within_more [] ys h k = k
-within_more (x ∷ xs) ys h k = (h.0, h.1, within_more xs ys h.2 k)
 
 pub entry_not_zero : (es : List (Monomial × ℤ)) (i : ℕ) (e : Monomial × ℤ) → IsCanonical terms es → i < length es → e ≡ get_or es i e → ¬ (e.1 ≡ pos 0)
 entry_not_zero [] i e h l q = absurd (omega arith)
@@ -60,7 +49,7 @@ pub nonneg_times : (m : Monomial) (c : ℤ) (es : List (Monomial × ℤ)) → Is
 nonneg_times m c es = subst IsNonNegative (times_bulk m c es) (nonneg_absolutes (times_list m c es))
 
 pub nonneg_product : (es fs : List (Monomial × ℤ)) → IsNonNegative (polynomial_of (absolutes es) *ᴾ polynomial_of (absolutes fs))
-nonneg_product [] fs = subst IsNonNegative (sym (ap (λ p. p *ᴾ polynomial_of (absolutes fs)) none_is ∙ 0ᴾ-*ᴾ (polynomial_of (absolutes fs)))) nonneg_none
+nonneg_product [] fs = subst IsNonNegative (sym (ap (λ p. p *ᴾ polynomial_of (absolutes fs)) polynomial_of-none ∙ 0ᴾ-*ᴾ (polynomial_of (absolutes fs)))) nonneg_none
 nonneg_product (e ∷ es) fs =
     subst IsNonNegative
     (sym (ap (λ p. p *ᴾ polynomial_of (absolutes fs)) (of-cons terms (e.0, pos (unsigned_abs e.1)) (absolutes es) ∙ ap (λ p. p +ᴾ polynomial_of (absolutes es)) (sym (term_is e.0 (pos (unsigned_abs e.1))))) ∙ +ᴾ-*ᴾ (term e.0 (pos (unsigned_abs e.1))) (polynomial_of (absolutes es)) (polynomial_of (absolutes fs))))
@@ -69,7 +58,7 @@ nonneg_product (e ∷ es) fs =
 -- a term that is past makes the whole past
 pub term_cause : (fail : PolyFail) (m : Monomial) (z : ℤ) (b : WholePolynomial) → IsCovered (term m (pos (unsigned_abs z))) b → ¬ (z ≡ pos 0) → IsTermCause fail m z → IsCause fail b
 term_cause (Past Coefficient) m z b c n h = cause_covered (Past Coefficient) (term m (pos (unsigned_abs z))) b c (wide_term m (pos (unsigned_abs z)) h)
-term_cause (Past Exponent) m z b c n h = cause_covered (Past Exponent) (term m (pos (unsigned_abs z))) b c (high_term m (pos (unsigned_abs z)) (λ e. n (is_zero_of_size z (ap unsigned_abs e))) h)
+term_cause (Past Exponent) m z b c n h = cause_covered (Past Exponent) (term m (pos (unsigned_abs z))) b c (high_term m (pos (unsigned_abs z)) (λ e. n (unsigned_abs_zero z (ap unsigned_abs e))) h)
 term_cause (Past Terms) m z b c n h = absurd h
 term_cause (Past Order) m z b c n h = absurd h
 term_cause (Past Unknowns) m z b c n h = absurd h
@@ -108,7 +97,7 @@ module _ {C : Type 0} (value : C → ℤ) where
       record {
         sums_are = ap (sums value) p ∙ sums-append value out (t ∷ []) ∙ ap₂ ◌++◌ s.sums_are (ap₂ (λ k v. (k, v) ∷ []) em ev) ∙ sym (times-append m c es (e ∷ []));
         sizes_are = ap sizes p ∙ sizes-append value out (t ∷ []) ∙ ap₂ ◌++◌ s.sizes_are here ∙ sym (absolutes-append (times_list m c es) (times_list m c (e ∷ []))) ∙ ap absolutes (sym (times-append m c es (e ∷ [])));
-        within = subst AreWithin (sym (ap sizes p ∙ sizes-append value out (t ∷ []))) (within_more (sizes out) (sizes (t ∷ [])) s.within (subst AreWithin (sym here) (fits, low, tt)));
+        within = subst AreWithin (sym (ap sizes p ∙ sizes-append value out (t ∷ []))) (within_append (sizes out) (sizes (t ∷ [])) s.within (subst AreWithin (sym here) (fits, low, tt)));
       }
 
   pub multiplied_end : (m : Monomial) (c : ℤ) (es : List (Monomial × ℤ)) (out made : List (Tally C)) → Multiplied m c es out → ¬ (unsigned_abs c ≡ 0) → IsSorted es → made ≡ reverse out → Tells value (reverse made) (term m c *ᴾ polynomial_of es) (term m (pos (unsigned_abs c)) *ᴾ polynomial_of (absolutes es))
@@ -128,8 +117,8 @@ module _ {C : Type 0} (value : C → ℤ) where
   pub times_zero : (m : Monomial) (c : ℤ) (es : List (Monomial × ℤ)) → unsigned_abs c ≡ 0 → Tells value [] (term m c *ᴾ polynomial_of es) (term m (pos (unsigned_abs c)) *ᴾ polynomial_of (absolutes es))
   times_zero m c es z =
       tells_same value [] (polynomial_of []) (term m c *ᴾ polynomial_of es) (polynomial_of []) (term m (pos (unsigned_abs c)) *ᴾ polynomial_of (absolutes es))
-      (none_is ∙ sym (ap (λ k. term m k *ᴾ polynomial_of es) (is_zero_of_size c z) ∙ zero_times m (polynomial_of es)))
-      (none_is ∙ sym (ap (λ k. term m (pos k) *ᴾ polynomial_of (absolutes es)) z ∙ zero_times m (polynomial_of (absolutes es)))) (tells_none value)
+      (polynomial_of-none ∙ sym (ap (λ k. term m k *ᴾ polynomial_of es) (unsigned_abs_zero c z) ∙ zero_times m (polynomial_of es)))
+      (polynomial_of-none ∙ sym (ap (λ k. term m (pos k) *ᴾ polynomial_of (absolutes es)) z ∙ zero_times m (polynomial_of (absolutes es)))) (tells_none value)
 
   -- the product of a term of the list is past
   pub factor_cause : (fail : PolyFail) (m : Monomial) (c : ℤ) (xs : List (Monomial × C)) (i : ℕ) (x : Monomial × C) → i < length xs → x ≡ get_or xs i x → ¬ (unsigned_abs c ≡ 0) → IsSorted (entries value xs)
@@ -167,7 +156,7 @@ module _ {C : Type 0} (value : C → ℤ) where
       (none_times (polynomial_of es)) (none_times (polynomial_of (absolutes es))) (tells_none value)
     where
       none_times : (p : WholePolynomial) → polynomial_of [] ≡ polynomial_of [] *ᴾ p
-      none_times p = none_is ∙ sym (ap (λ q. q *ᴾ p) none_is ∙ 0ᴾ-*ᴾ p)
+      none_times p = polynomial_of-none ∙ sym (ap (λ q. q *ᴾ p) polynomial_of-none ∙ 0ᴾ-*ᴾ p)
 
   -- ---- a product by a list of one term
 

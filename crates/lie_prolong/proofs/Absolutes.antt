@@ -14,17 +14,19 @@ use Rattle.lie_geometry.specs.Prolongation.{InZ, is_in_z}
 use Rattle.lie_ring.specs.Entries.{entries}
 use Rattle.lie_prolong.specs.Bulks.{absolute_field}
 use Rattle.lie_math.specs.Derivation.{sum_of}
-use Rattle.lie_math.specs.FiniteSumLaws.{value-of, value-plus, value-none, ext, of_list}
+use Rattle.lie_math.specs.FiniteSumLaws.{value-plus, value-none, ext}
 use Rattle.lie_math.specs.Integer.{coefficients}
-use Rattle.lie_math.specs.Limits.{absolutes, absolute, IsWithinLimits}
+use Rattle.lie_math.specs.Limits.{absolutes, absolute}
 use Rattle.lie_math.specs.Monomial.{Monomial, monomial_cmp}
 use Rattle.lie_math.specs.MonomialOrder.{monomial_cmp_total, monomial_cmp-IsAntisymmetric}
 use Rattle.lie_math.specs.Polynomial.{WholePolynomial, terms, coefficient, polynomial_of, 0ᴾ, ◌+ᴾ◌, ◌*ᴾ◌, constant, negᴾ}
 use Rattle.lie_math.specs.PolynomialRing.{negᴾ_l, one-*ᴾ}
-use Rattle.lie_math.proofs.Limits.{at, IsCovered, IsNonNegative, within_covered, nonneg_none}
+use Rattle.lie_math.proofs.Limits.{at, IsCovered, IsNonNegative}
 use Rattle.lie_poly.proofs.BulkLists.{Bounds}
 use Rattle.lie_math.specs.FiniteSum.{IsCanonical}
 use Rattle.lie_math.proofs.CanonicalLists.{canonical_below, canonical_tail}
+use Rattle.lie_jet.proofs.FormBounds.{coefficient_absolute, absolute_none}
+use Rattle.lie_jet.proofs.TotalParts.{entries_same}
 
 -- ---- the coefficients of the absolute value
 at_absolutes : (m : Monomial) (es : List (Monomial × ℤ)) → IsCanonical terms es → at m (absolutes es) ≡ pos (unsigned_abs (at m es))
@@ -34,10 +36,6 @@ at_absolutes m (e ∷ es) h = by (eq_by_cmp monomial_cmp m e.0) e.1 _ _ (at_abso
     by : (t : Bool) (a x y : ℤ) → y ≡ pos (unsigned_abs x) → x ≡ cond t (pos 0) (cond t a (pos 0) +ℤ x) → cond t (pos (unsigned_abs a)) (pos 0) +ℤ y ≡ pos (unsigned_abs (cond t a (pos 0) +ℤ x))
     by true a x y e f = omega (arith, ints)
     by false a x y e f = omega (arith, ints)
-
-pub coefficient-absolute : (p : WholePolynomial) (m : Monomial) → coefficient (absolute p) m ≡ pos (unsigned_abs (coefficient p m))
-unfolding absolute
-coefficient-absolute p m = value-of terms (absolutes p.list) m ∙ at_absolutes m p.list p.canonical ∙ ap (λ z. pos (unsigned_abs z)) (sym (value-of terms p.list m) ∙ ap (λ q. coefficient q m) (of_list terms p))
 
 -- ---- p is bounded by b, which has no negative coefficient
 pub record IsBounded (p b : WholePolynomial) : Type 0 where
@@ -50,32 +48,26 @@ pub bounded_plain : (p b : WholePolynomial) → IsBounded p b → IsNonNegative 
 bounded_plain p b h = record { plain = λ m. (h.bounds m).plain }
 
 pub bounded_absolute : (p : WholePolynomial) → IsBounded p (absolute p)
-bounded_absolute p = record { bounds = λ m. here (coefficient p m) (coefficient (absolute p) m) (coefficient-absolute p m) }
+bounded_absolute p = record { bounds = λ m. here (coefficient p m) (coefficient (absolute p) m) (coefficient_absolute p m) }
   where
     here : (x y : ℤ) → y ≡ pos (unsigned_abs x) → Bounds x y
     here x y e = record { covered = omega (arith, ints); plain = omega (arith, ints) }
 
 -- so is its absolute value
 pub absolute_bounded : (p b : WholePolynomial) → IsBounded p b → IsBounded (absolute p) b
-absolute_bounded p b h = record { bounds = λ m. here (coefficient p m) _ _ (coefficient-absolute p m) (h.bounds m) }
+absolute_bounded p b h = record { bounds = λ m. here (coefficient p m) _ _ (coefficient_absolute p m) (h.bounds m) }
   where
     here : (x y z : ℤ) → y ≡ pos (unsigned_abs x) → Bounds x z → Bounds y z
     here x y z e h = record { covered = let k = h.covered in omega (arith, ints); plain = h.plain }
 
 pub absolute_covered : (p : WholePolynomial) → IsCovered (absolute p) p
-absolute_covered p = record { at_most = λ m. here (coefficient p m) _ (coefficient-absolute p m) }
+absolute_covered p = record { at_most = λ m. here (coefficient p m) _ (coefficient_absolute p m) }
   where
     here : (x y : ℤ) → y ≡ pos (unsigned_abs x) → unsigned_abs y ≤ unsigned_abs x
     here x y e = omega (arith, ints)
 
-pub absolute_within : (p : WholePolynomial) → IsWithinLimits p → IsWithinLimits (absolute p)
-absolute_within p w = within_covered (absolute p) p (absolute_covered p) w
-
 pub absolute-nonneg : (p : WholePolynomial) → IsNonNegative p → absolute p ≡ p
-absolute-nonneg p h = ext terms (absolute p) p (λ m. coefficient-absolute p m ∙ sym (h.plain m))
-
-pub absolute-absolute : (p : WholePolynomial) → absolute (absolute p) ≡ absolute p
-absolute-absolute p = absolute-nonneg (absolute p) (bounded_plain p (absolute p) (bounded_absolute p))
+absolute-nonneg p h = ext terms (absolute p) p (λ m. coefficient_absolute p m ∙ sym (h.plain m))
 
 -- ---- sums
 pub bounded_sum : (p q b d : WholePolynomial) → IsBounded p b → IsBounded q d → IsBounded (p +ᴾ q) (b +ᴾ d)
@@ -113,7 +105,7 @@ left_over p b = b +ᴾ negᴾ (absolute p)
 
 cancelled : (p b : WholePolynomial) (m : Monomial) → coefficient (left_over p b) m +ℤ pos (unsigned_abs (coefficient p m)) ≡ coefficient b m
 unfolding left_over
-cancelled p b m = here _ _ _ (coefficient p m) _ (value-plus terms b (negᴾ (absolute p)) m) (sym (value-plus terms (negᴾ (absolute p)) (absolute p) m) ∙ ap (λ q. coefficient q m) (negᴾ_l (absolute p)) ∙ value-none terms m) (coefficient-absolute p m)
+cancelled p b m = here _ _ _ (coefficient p m) _ (value-plus terms b (negᴾ (absolute p)) m) (sym (value-plus terms (negᴾ (absolute p)) (absolute p) m) ∙ ap (λ q. coefficient q m) (negᴾ_l (absolute p)) ∙ value-none terms m) (coefficient_absolute p m)
   where
     here : (b n a x s : ℤ) → s ≡ b +ℤ n → n +ℤ a ≡ pos 0 → a ≡ pos (unsigned_abs x) → s +ℤ pos (unsigned_abs x) ≡ b
     here b n a x s e f g = omega (arith, ints)
@@ -125,15 +117,10 @@ left_over_plain p b h = record { plain = λ m. here _ _ _ (cancelled p b m) (h.b
     here s x y e h = let a = h.covered in let b = h.plain in omega (arith, ints)
 
 pub left_over_sum : (p b : WholePolynomial) → absolute p +ᴾ left_over p b ≡ b
-left_over_sum p b = ext terms (absolute p +ᴾ left_over p b) b (λ m. here _ _ (coefficient p m) _ _ (value-plus terms (absolute p) (left_over p b) m) (coefficient-absolute p m) (cancelled p b m))
+left_over_sum p b = ext terms (absolute p +ᴾ left_over p b) b (λ m. here _ _ (coefficient p m) _ _ (value-plus terms (absolute p) (left_over p b) m) (coefficient_absolute p m) (cancelled p b m))
   where
     here : (a s x y t : ℤ) → t ≡ a +ℤ s → a ≡ pos (unsigned_abs x) → s +ℤ pos (unsigned_abs x) ≡ y → t ≡ y
     here a s x y t e f g = omega (arith, ints)
-
--- ---- as lists
-entries_same : (xs : List (Monomial × ℤ)) → entries (λ z. z) xs ≡ xs
-entries_same [] = refl
-entries_same (x ∷ xs) = ap (λ ys. x ∷ ys) (entries_same xs)
 
 pub absolute_listed : (p : WholePolynomial) (xs ys : List (Monomial × ℤ)) → entries (λ z. z) xs ≡ p.list → ys ≡ absolutes xs → polynomial_of (entries (λ z. z) ys) ≡ absolute p
 unfolding absolute
@@ -143,7 +130,7 @@ pub absolute_field_is : (V W : VectorField) → W.denominator ≡ V.denominator 
 absolute_field_is V W e f = same_vector_field W (absolute_field V) (ap₂ (λ d ps. (d, ps)) e f)
 
 pub absolute_in : (T : ℕ → Bool) (p : WholePolynomial) → IsIn T p → IsIn T (absolute p)
-absolute_in T p h v out m n = h v out m (λ z. n (coefficient-absolute p m ∙ ap (λ c. pos (unsigned_abs c)) z))
+absolute_in T p h v out m n = h v out m (λ z. n (coefficient_absolute p m ∙ ap (λ c. pos (unsigned_abs c)) z))
 
 -- ---- a sign
 pub bounded_negative : (p b : WholePolynomial) → IsBounded p b → IsBounded (negᴾ p) b
@@ -159,15 +146,11 @@ bounded_signed (negsuc n) p b e h = subst (λ k. IsBounded (constant (negsuc k) 
     none : unsigned_abs (negsuc n) ≡ 1 → 0 ≡ n
     none e = omega arith
 
--- ---- the components of the field with absolute values
-absolute-none : absolute 0ᴾ ≡ 0ᴾ
-absolute-none = absolute-nonneg 0ᴾ nonneg_none
-
 pub component-absolute : (V : VectorField) (s : ℕ) → component (absolute_field V) s ≡ absolute (component V s)
 component-absolute V s = go V.parts s
   where
     go : (ps : List WholePolynomial) (s : ℕ) → get_or (map absolute ps) s 0ᴾ ≡ absolute (get_or ps s 0ᴾ)
-    go [] s = sym absolute-none
+    go [] s = sym absolute_none
     go (p ∷ ps) zero = refl
     go (p ∷ ps) (suc s) = go ps s
 

@@ -13,11 +13,11 @@ use Rattle.lie_ring.specs.Causes.{IsCause}
 use Rattle.lie_ring.specs.declared.failures.PastKind.TheVariants.{Coefficient, Exponent, Terms, Order, Unknowns, Width}
 use Rattle.lie_ring.specs.declared.failures.PolyFail.{PolyFail}
 use Rattle.lie_ring.specs.declared.failures.PolyFail.TheVariants.{Past, NoMemory}
-use Rattle.lie_jet.proofs.TotalSteps.{one_times}
+use Rattle.lie_math.specs.Integer.{*ℤ-idl}
 
 at_times : (k m : Monomial) (es : List (Monomial × ℤ)) → at (k · m) (times_list k (pos 1) es) ≡ at m es
 at_times k m [] = refl
-at_times k m (e ∷ es) = ap₂ ◌+ℤ◌ (ap₂ (λ t z. cond t z (pos 0)) (ap is_eq (monomial_cmp-· k m e.0)) (one_times e.1)) (at_times k m es)
+at_times k m (e ∷ es) = ap₂ ◌+ℤ◌ (ap₂ (λ t z. cond t z (pos 0)) (ap is_eq (monomial_cmp-· k m e.0)) (*ℤ-idl e.1)) (at_times k m es)
 
 module _ (p : WholePolynomial) (w : ℕ) where
   raised_list : List (Monomial × ℤ)

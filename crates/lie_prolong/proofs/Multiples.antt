@@ -17,9 +17,10 @@ use Rattle.lie_ring.specs.declared.failures.PolyFail.{PolyFail}
 use Rattle.lie_poly.proofs.SumSteps.{cause_covered}
 use Rattle.lie_jet.specs.Jets.{IsSmall}
 use Rattle.lie_prolong.specs.Bulks.{absolute_field, multiples}
-use Rattle.lie_prolong.proofs.Absolutes.{IsBounded, bounded_plain, bounded_covered, bounded_sum, bounded_sum_of, bounded_signed, absolute_bounded, absolute-absolute, component-absolute}
+use Rattle.lie_prolong.proofs.Absolutes.{IsBounded, bounded_plain, bounded_covered, bounded_sum, bounded_sum_of, bounded_signed, absolute_bounded, component-absolute}
 use Rattle.lie_prolong.proofs.Positive.{positive_absolute, positive_bounded, total_is_positive, times_is_positive}
 use Rattle.lie_prolong.proofs.Coefficients.{first_covered, one_covered}
+use Rattle.lie_jet.proofs.Absolutes.{absolute_twice}
 
 pub component_read : (V : VectorField) (ps : List WholePolynomial) (i k : ℕ) (r : WholePolynomial) → ps ≡ V.parts → k ≡ i → i < length V.parts → r ≡ get_or ps k r → r ≡ component V i
 component_read V ps i k r e f h q = get_or_read V.parts i r h (q ∙ ap₂ (λ (xs : List WholePolynomial) (n : ℕ). get_or xs n r) e f) 0ᴾ
@@ -84,8 +85,8 @@ components_are V W e = ap component e ∙ fun_ext (component-absolute V)
 pub bulk_is : (S : Space) (V W : VectorField) (k a : ℕ) (J : List ℕ) (P Q : WholePolynomial) → W ≡ absolute_field V → Q ≡ absolute P
     → total_derivative S k (absolute Q) +ᴾ multiples S (λ i. absolute (component W i)) k a J ≡ total_derivative S k (absolute P) +ᴾ multiples S (λ i. absolute (component V i)) k a J
 bulk_is S V W k a J P Q e f =
-    ap₂ (λ p F. total_derivative S k p +ᴾ multiples S F k a J) (ap absolute f ∙ absolute-absolute P)
-    (ap (λ F i. absolute (F i)) (components_are V W e) ∙ fun_ext (λ i. absolute-absolute (component V i)))
+    ap₂ (λ p F. total_derivative S k p +ᴾ multiples S F k a J) (ap absolute f ∙ absolute_twice P)
+    (ap (λ F i. absolute (F i)) (components_are V W e) ∙ fun_ext (λ i. absolute_twice (component V i)))
 
 pub bulk_made : (S : Space) (V W : VectorField) (k a : ℕ) (J : List ℕ) (P Q b : WholePolynomial) (z : ℤ) → z ≡ pos 1 → W ≡ absolute_field V → Q ≡ absolute P → b ≡ total_derivative S k Q +ᴾ constant z *ᴾ multiples S (component W) k a J
     → b ≡ total_derivative S k (absolute P) +ᴾ multiples S (λ i. absolute (component V i)) k a J

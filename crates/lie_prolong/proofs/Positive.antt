@@ -22,9 +22,11 @@ use Rattle.lie_jet.specs.Jets.{IsSmall}
 use Rattle.lie_jet.specs.Slopes.{IsSlope}
 use Rattle.lie_jet.proofs.ChainRules.{part}
 use Rattle.lie_jet.proofs.Raised.{slope_of_jet, slope_at_itself, slope_elsewhere}
-use Rattle.lie_jet.proofs.TotalParts.{total_term}
+use Rattle.lie_jet.proofs.TotalParts.{total_term, number_of_independent}
 use Rattle.lie_jet.proofs.TotalSteps.{size_times}
 use Rattle.lie_prolong.proofs.Absolutes.{IsBounded, bounded_covered, absolute_bounded, bounded_plain, bounded_none, bounded_sum, bounded_more, left_over, left_over_plain, left_over_sum, absolute-nonneg}
+use Rattle.lie_jet.proofs.TotalBounds.{absolute_variable}
+use Rattle.lie_math.specs.Integer.{*ℤ-idl}
 
 pub record IsPositive (F : WholePolynomial → WholePolynomial) : Type 0 where
   pub plus : (p q : WholePolynomial) → F (p +ᴾ q) ≡ F p +ᴾ F q
@@ -65,11 +67,6 @@ times_is_positive w = record {
   on_term = λ m c. subst₂ IsBounded (sym (term_times_term m (single w) c (pos 1))) (ap (term (m · single w)) (size_times c 1) ∙ sym (term_times_term m (single w) (pos (unsigned_abs c)) (pos 1))) (bounded_term (m · single w) (c *ℤ pos 1));
 }
 
--- ---- the total derivative
-number_of_independent : (S : Space) (j : ℕ) → number S (independent j) ≡ j
-unfolding number
-number_of_independent S j = refl
-
 module _ (S : Space) (small : IsSmall S) (i : ℕ) (inside : i < S.p) where
   abbrev slope : ℕ → WholePolynomial
   slope w = total_derivative S i (variable w)
@@ -100,7 +97,7 @@ module _ (S : Space) (small : IsSmall S) (i : ℕ) (inside : i < S.p) where
       go (Some f) q = subst (λ d. IsBounded (d *ᴾ term m c) (d *ᴾ term m (pos (unsigned_abs c)))) q (subst₂ IsBounded (sym (single_is c)) (sym (single_is (pos (unsigned_abs c)))) (bounded_term (f · m) c))
         where
           single_is : (z : ℤ) → term f (pos 1) *ᴾ term m z ≡ term (f · m) z
-          single_is z = term_times_term f m (pos 1) z ∙ ap (term (f · m)) (Rattle.lie_jet.proofs.TotalSteps.one_times z)
+          single_is z = term_times_term f m (pos 1) z ∙ ap (term (f · m)) (*ℤ-idl z)
 
   bounded_parts : (m : Monomial) (c : ℤ) (ps : List (ℕ × ℕ)) → IsBounded (sum_of_entries polynomials (part slope m c) ps) (sum_of_entries polynomials (part slope m (pos (unsigned_abs c))) ps)
   bounded_parts m c [] = bounded_none
@@ -113,12 +110,8 @@ module _ (S : Space) (small : IsSmall S) (i : ℕ) (inside : i < S.p) where
     on_term = λ m c. subst₂ IsBounded (sym (total_term S i m c)) (sym (total_term S i m (pos (unsigned_abs c)))) (bounded_parts m c m.list);
   }
 
--- ---- what the making of one multiple meets
-absolute-variable : (w : ℕ) → absolute (variable w) ≡ variable w
-absolute-variable w = absolute-nonneg (variable w) (bounded_plain _ _ (bounded_term (single w) (pos 1)))
-
 pub product_covered : (S : Space) (small : IsSmall S) (k : ℕ) (inside : k < S.p) (p d v : WholePolynomial) (w : ℕ) → d ≡ total_derivative S k p → v ≡ variable w → IsCovered (absolute d *ᴾ absolute v) (total_derivative S k (absolute p) *ᴾ variable w)
 product_covered S small k inside p d v w e f =
     let positive = total_is_positive S small k inside in
-    subst₂ (λ x y. IsCovered (absolute x *ᴾ y) (total_derivative S k (absolute p) *ᴾ variable w)) (sym e) (sym (ap absolute f ∙ absolute-variable w))
+    subst₂ (λ x y. IsCovered (absolute x *ᴾ y) (total_derivative S k (absolute p) *ᴾ variable w)) (sym e) (sym (ap absolute f ∙ absolute_variable w))
     (bounded_covered _ _ (positive_bounded (times_is_positive w) (absolute (total_derivative S k p)) (total_derivative S k (absolute p)) (absolute_bounded _ _ (positive_absolute positive p))))

@@ -1,7 +1,7 @@
 -- The jets that occur in the symbolic coefficients, and the orders of the derivatives of unknowns: no more than the order of the coefficient.
 use Rattle.std.specs.Prelude.{◌≡◌, ℕ, zero, suc, ◌+◌, ◌<◌, ◌≤◌, true, List, [], ◌∷◌, length, take, ltb, replicate, negsuc, pos}
 use Rattle.std.specs.List.{AllByRecursion as Every}
-use Rattle.std.proofs.Common.{refl, sym, ap, subst, ◌∙◌, arith, ltb-true}
+use Rattle.std.proofs.Common.{sym, ap, subst, ◌∙◌, arith, ltb-true}
 use Rattle.lie_math.specs.Counts.{Derivative, order, raise, raised}
 use Rattle.lie_math.specs.Derivation.{numbers_below}
 use Rattle.lie_math.specs.FiniteSumLaws as finite_laws
@@ -16,7 +16,7 @@ use Rattle.lie_geometry.specs.Prolongation.{indices, jet_variable, total_derivat
 use Rattle.lie_geometry.specs.SymbolicProlongation.{forms_over, unknown, symbolic_total, symbolic_coefficient, symbolic_coefficient_at}
 use Rattle.lie_geometry.proofs.Booleans.{and_left, and_right}
 use Rattle.lie_geometry.proofs.Indices.{raise_length, all_below, counts_of_length, counts_of-indices, below_indices}
-use Rattle.lie_geometry.proofs.SymbolicProlongation.{total_term, replicate_length}
+use Rattle.lie_geometry.proofs.SymbolicProlongation.{total_term, replicate_length, replicate_order}
 use Rattle.lie_jet.specs.FormLimits.{HasJetsUpTo, HasOrdersUpTo}
 use Rattle.lie_jet.specs.Jets.{coordinate_of, IsJet}
 use Rattle.lie_jet.specs.declared.jet.Jet.{Jet}
@@ -60,16 +60,12 @@ module _ (S : Space) (some_p : 0 < S.p) (some_q : 0 < S.q) where
     low_unknown : (s : ℕ) → IsLowForm m n (unknown s)
     low_unknown s = low_term _ (constant (pos 1)) (in-constant (below S some_p some_q m) (pos 1)) (omega arith)
 
-  zeros_order : (p : ℕ) → order (replicate p 0) ≡ 0
-  zeros_order zero = refl
-  zeros_order (suc p) = let h = zeros_order p in omega arith
-
   pub low_total : (k n : ℕ) → k < S.p → (E : LinearForm) → IsLowForm n n E → IsLowForm (suc n) (suc n) (symbolic_total S k E)
   unfolding symbolic_total
   low_total k n f E h = low_map (suc n) (suc n) n n (total_term S k) each E h
     where
       once : (b : ℕ) → b < S.q → IsIn (below S some_p some_q (suc n)) (jet_variable S b (raise k (replicate S.p 0)))
-      once b g = jet_in S some_p some_q (suc n) b (raise k (replicate S.p 0)) (g, raise_length k (replicate S.p 0) (subst (λ l. k < l) (sym (replicate_length S.p)) f) ∙ replicate_length S.p) (let e = order_raise k (replicate S.p 0) in let z = zeros_order S.p in omega arith)
+      once b g = jet_in S some_p some_q (suc n) b (raise k (replicate S.p 0)) (g, raise_length k (replicate S.p 0) (subst (λ l. k < l) (sym (replicate_length S.p)) f) ∙ replicate_length S.p) (let e = order_raise k (replicate S.p 0) in let z = replicate_order S.p in omega arith)
 
       more : (i : ℕ) (d : Derivative) → order d.counts ≤ n → order (raised i d).counts ≤ suc n
       more i d o = let e = order_raise i d.counts in omega arith

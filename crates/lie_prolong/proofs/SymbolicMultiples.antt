@@ -26,8 +26,8 @@ use Rattle.lie_jet.specs.FormTotals.{dependent_term, derived_term}
 use Rattle.lie_jet.specs.Jets.{IsSmall}
 use Rattle.lie_jet.proofs.FormBounds.{IsFormBound}
 use Rattle.lie_jet.proofs.TotalBounds.{absolute_term, derived_bound}
-use Rattle.lie_jet.proofs.TotalSteps.{one_times}
 use Rattle.lie_prolong.specs.SymbolicBulks.{symbolic_multiple}
+use Rattle.lie_math.specs.Integer.{*ℤ-idl}
 
 -- ---- multiples of forms
 pub times_one : (E : LinearForm) → times_form (constant (pos 1)) E ≡ E
@@ -74,7 +74,7 @@ module _ (S : Space) (k : ℕ) (d : Derivative) (p : WholePolynomial) where
       (times_over p (numbers_below S.q) (dependent_term S k d (constant (pos 1))) ∙ ap (forms_over (numbers_below S.q)) (fun_ext slope_times))
 
 pub signed_is : (n : ℕ) (s : ℤ) → constant s *ᴾ variable n ≡ term (single n) s
-signed_is n s = term_times_term unit (single n) s (pos 1) ∙ ap₂ term (·_idl (single n)) (*ℤ_comm s (pos 1) ∙ one_times s)
+signed_is n s = term_times_term unit (single n) s (pos 1) ∙ ap₂ term (·_idl (single n)) (*ℤ_comm s (pos 1) ∙ *ℤ-idl s)
 
 abbrev pub component_at : ℕ → Derivative
 component_at i = record { unknown = suc i; counts = [] }

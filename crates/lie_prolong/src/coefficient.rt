@@ -13,9 +13,8 @@ ghost use Rattle.lie_jet.specs.Jets.{coordinate_of, IsJet, IsSmall};
 ghost use Rattle.lie_prolong.specs.Bulks.{absolute_field, multiples, bulk_at};
 ghost use Rattle.lie_prolong.specs.JetLists.{AreFirstValues};
 
-use crate::absolute::absolute_polynomial;
 use crate::lowering::lowered;
-use lie_jet::{Field, Jet, JetPoly, Space, jet_number, raise_jet, total};
+use lie_jet::{Field, Jet, JetPoly, Space, absolute_polynomial, jet_number, raise_jet, total};
 use lie_ring::{Mono, NoMemory, PolyFail, Polynomial, Ring, Whole};
 use std::alloc::Global;
 
@@ -87,10 +86,7 @@ fn derived(
     ensures fits { OnOk result (IsWithinLimits (total_derivative space k (absolute before.now) +ᴾ multiples space (λ i. absolute (component field.now i)) k jet.now.dep (take space.p jet.now.counts))) }
     ensures past { IfErr result (λ fail. IsCause fail (total_derivative space k (absolute before.now) +ᴾ multiples space (λ i. absolute (component field.now i)) k jet.now.dep (take space.p jet.now.counts))) }
 {
-    let size = match absolute_polynomial(alloc, before) {
-        Ok(size) => size,
-        Err(NoMemory) => return Err(PolyFail::NoMemory),
-    };
+    let size = absolute_polynomial(alloc, before)?;
     let bulk = step(alloc, space, sizes, k, jet, &size, Whole::one())?;
     let _ = bulk.len();
     step(alloc, space, field, k, jet, before, Whole::one().neg())

@@ -15,16 +15,14 @@ use Rattle.lie_jet.specs.Jets.{coordinate_of, IsJet, IsSmall}
 use Rattle.lie_jet.specs.declared.jet.Jet.{Jet}
 use Rattle.lie_solved.specs.Leads.{ranked}
 use Rattle.lie_solved.specs.Equations.{is_greater, IsGreatestOf, IsBest}
-use Rattle.lie_solved.proofs.Variables.{every-append}
+use Rattle.lie_gram.proofs.PrintedVariables.{less_test}
+use Rattle.lie_ring.proofs.Fronts.{every-append}
 
 -- ---- tests
 ltb_leb : (a b : ℕ) → ltb a b ≡ true → leb b a ≡ false
 ltb_leb a b e = grind (arith, leb_tells)
 
-lt_ltb : (a b : ℕ) → a < b → ltb a b ≡ true
-lt_ltb a b h = le-leb (suc a) b (omega arith)
-
-eqb_itself : (a : ℕ) → eqb a a ≡ true
+pub eqb_itself : (a : ℕ) → eqb a a ≡ true
 eqb_itself a = grind (arith, nat_tests)
 
 and_false : (a b : Bool) → b ≡ false → (a && b) ≡ false
@@ -36,11 +34,11 @@ reversed Less e = absurd (true≢false (sym e))
 reversed Equal e = absurd (true≢false (sym e))
 reversed Greater e = refl
 
-found_left : (a b : Bool) → a ≡ true → (a || b) ≡ true
+pub found_left : (a b : Bool) → a ≡ true → (a || b) ≡ true
 found_left true b e = refl
 found_left false b e = absurd (true≢false (sym e))
 
-found_right : (a b : Bool) → b ≡ true → (a || b) ≡ true
+pub found_right : (a b : Bool) → b ≡ true → (a || b) ≡ true
 found_right true b e = refl
 found_right false b e = e
 
@@ -69,8 +67,8 @@ module _ (S : Space) where
   }
 
   pub best_low : (ws : List ℕ) (w : ℕ) (best : Option Jet) → w < S.p + S.q → IsBest S ws best → IsBest S (ws ++ w ∷ []) best
-  best_low ws w None lt h = every-append (λ w. ltb w (S.p + S.q) ≡ true) ws (w ∷ []) h (lt_ltb w (S.p + S.q) lt, tt)
-  best_low ws w (Some j) lt h = kept_best ws w j (low_not_greater j w (lt_ltb w (S.p + S.q) lt)) h
+  best_low ws w None lt h = every-append (λ w. ltb w (S.p + S.q) ≡ true) ws (w ∷ []) h (less_test w (S.p + S.q) lt, tt)
+  best_low ws w (Some j) lt h = kept_best ws w j (low_not_greater j w (less_test w (S.p + S.q) lt)) h
 
   -- ---- a derivative
   module _ (small : IsSmall S) (w : ℕ) (j : Jet) (high : S.p + S.q ≤ w) (is : IsJet S 12 j × (coordinate S w ≡ coordinate_of S j)) where

@@ -14,12 +14,9 @@ use Rattle.lie_math.proofs.FiniteSum.{key, entries_of}
 use Rattle.lie_math.proofs.Monomial.{exponent-single, same_variable}
 use Rattle.lie_solved.specs.Leads.{IsLinearIn}
 use Rattle.lie_solved.specs.Equations.{IsLinearWith}
-use Rattle.lie_solved.proofs.Variables.{every-append, every_at}
-
--- ---- a variable as a monomial
-pub list-single : (w : ℕ) → (single w).list ≡ (w, 1) ∷ []
-unfolding finite.term
-list-single w = finite_laws.list-of powers ((w, 1) ∷ []) tt
+use Rattle.lie_gram.proofs.FileTerms.{at_entry}
+use Rattle.lie_gram.proofs.CanonicalLeads.{list-single}
+use Rattle.lie_ring.proofs.Fronts.{every-append, every_at, take_more}
 
 pub single_by_list : (m : Monomial) (w : ℕ) (ps : List (ℕ × ℕ)) → ps ≡ m.list → length ps ≡ 1 → (get_or ps 0 (0, 0)).0 ≡ w → (get_or ps 0 (0, 0)).1 ≡ 1 → m ≡ single w
 single_by_list m w [] e l v o = absurd (omega arith)
@@ -32,22 +29,13 @@ list_of_single m w ps e s = e ∙ ap (λ (n : Monomial). n.list) s ∙ list-sing
 pub exponent_single : (w : ℕ) → exponent (single w) w ≡ 1
 exponent_single w = exponent-single w w ∙ ap (λ b. cond b 1 0) (same_variable w)
 
--- ---- the terms of a polynomial
-pub at_entry : (Q : Monomial → Type 0) (es : List (Monomial × ℤ)) → Every (λ (e : Monomial × ℤ). Q e.0) es → (m : Monomial) → ¬ (value_at monomial_cmp coefficients m es ≡ pos 0) → Q m
-at_entry Q [] h m n = absurd (n refl)
-at_entry Q (e ∷ es) h m n = go (eq_by_cmp monomial_cmp m e.0) refl (at_entry Q es h.1 m)
-  where
-    go : (b : Bool) → eq_by_cmp monomial_cmp m e.0 ≡ b → (¬ (value_at monomial_cmp coefficients m es ≡ pos 0) → Q m) → Q m
-    go true f rest = subst Q (sym (key terms m e.0 f)) h.0
-    go false f rest = rest (λ z. n (ap (λ t. cond t e.1 (pos 0) +ℤ value_at monomial_cmp coefficients m es) f ∙ lib.IntN.+ℤ_idl (value_at monomial_cmp coefficients m es) ∙ z))
-
 entries_have : (P : WholePolynomial) → Every (λ (e : Monomial × ℤ). (coefficient P e.0 ≡ e.1) × ¬ (e.1 ≡ pos 0)) P.list
 entries_have P = entries_of terms P (λ e. (coefficient P e.0 ≡ e.1) × ¬ (e.1 ≡ pos 0)) (λ e is apart. (is, apart))
 
 pub entry_at : (P : WholePolynomial) (ts : List (Monomial × ℤ)) → P.list ≡ ts → (i : ℕ) (t : Monomial × ℤ) → i < length ts → t ≡ get_or ts i t → (coefficient P t.0 ≡ t.1) × ¬ (t.1 ≡ pos 0)
 entry_at P ts e i t lt is =
     let H : Monomial × ℤ → Type 0 = λ x. (coefficient P x.0 ≡ x.1) × ¬ (x.1 ≡ pos 0) in
-    subst H (sym is) (every_at H ts i t lt (subst (Every H) e (entries_have P)))
+    every_at H ts i t lt is (subst (Every H) e (entries_have P))
 
 -- ---- the terms up to a place
 -- the number found is that of the variable
@@ -61,7 +49,7 @@ IsAlone w ts = Every (λ (t : Monomial × ℤ). ¬ (exponent t.0 w ≡ 0) → t.
 
 one_more : (Q : Monomial × ℤ → Type 0) (ts : List (Monomial × ℤ)) (i : ℕ) (t : Monomial × ℤ) → i < length ts → t ≡ get_or ts i t → Every Q (take i ts) → Q t → Every Q (take (i + 1) ts)
 one_more Q ts i t lt is h q =
-    subst (Every Q) (ap (λ u. take i ts ++ u ∷ []) is ∙ sym (ap (λ n. take n ts) (add-one i) ∙ take-suc ts i t lt)) (every-append Q (take i ts) (t ∷ []) h (q, tt))
+    subst (Every Q) (take_more ts i t lt is) (every-append Q (take i ts) (t ∷ []) h (q, tt))
 
 pub found_without : (w : ℕ) (ts : List (Monomial × ℤ)) (i : ℕ) (t : Monomial × ℤ) (found : Option ℤ) → i < length ts → t ≡ get_or ts i t → exponent t.0 w ≡ 0 → IsFound w ts (take i ts) found → IsFound w ts (take (i + 1) ts) found
 found_without w ts i t None lt is e h = one_more (λ t. exponent t.0 w ≡ 0) ts i t lt is h e

@@ -26,6 +26,7 @@ use Rattle.lie_solved.specs.SolvedForms.{IsSolvedBy, AreSolvedBy}
 use Rattle.lie_solved.specs.Refusals.{HasNoLead}
 use Rattle.lie_solved.specs.Laws.{SolvedFormIsOne, RefusedHasNoForm}
 use Rattle.lie_solved.proofs.LinearTerms.{exponent_single}
+use Rattle.lie_gram.proofs.PrintedVariables.{not_less_test}
 
 -- ---- one lead
 ranked_same : (S : Space) (c d : Coordinate) → IsCoordinate S c → IsCoordinate S d → S.p ≤ number S c → S.p ≤ number S d → ranked c ≡ ranked d → c ≡ d
@@ -220,13 +221,10 @@ every_middle Q (x ∷ rs) r ss h = every_middle Q rs r ss h.1
 pub solved_form_is_one : SolvedFormIsOne
 solved_form_is_one S is es rs ss h k = all_same S is es rs ss h.equations k.equations
 
-pub not_below : (a b : ℕ) → b ≤ a → ltb a b ≡ false
-not_below a b h = grind (arith, leb_tells)
-
 pub refused_has_no_form : RefusedHasNoForm
 refused_has_no_form S is es rs h NoDerivative k (ss, e, at, none) =
     let m = middle_of S at.before e at.after rs (subst (λ xs. AreSolvedBy S xs rs) at.place h.equations) in
-    has_single m.rule.lead (none m.rule.lead (not_below m.rule.lead (S.p + S.q) m.solves.derivative) (single m.rule.lead) (apart S e m.rule m.solves))
+    has_single m.rule.lead (none m.rule.lead (not_less_test m.rule.lead (S.p + S.q) m.solves.derivative) (single m.rule.lead) (apart S e m.rule m.solves))
 refused_has_no_form S is es rs h LeadNotLinear k (ss, e, at, bent) =
     let m = middle_of S at.before e at.after rs (subst (λ xs. AreSolvedBy S xs rs) at.place h.equations) in
     bent.bent (subst (λ w. IsLinearIn w e.diff) (lead_same S is e m.rule.lead bent.lead m.solves.lead bent.is) (solved_linear S e m.rule m.solves))

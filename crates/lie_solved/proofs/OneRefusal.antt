@@ -13,7 +13,8 @@ use Rattle.lie_solved.specs.Leads.{HasNoDerivative, IsLinearIn}
 use Rattle.lie_solved.specs.SolvedForms.{IsSolvedBy, AreSolvedBy, HaveDistinctLeads}
 use Rattle.lie_solved.specs.Refusals.{ArePassed, IsReached, HasLeadNotLinear, HasLeadRepeated, HasNoLead, IsFirstInside, IsRefused}
 use Rattle.lie_solved.specs.Laws.{RefusalIsOne}
-use Rattle.lie_solved.proofs.OneForm.{lead_same, apart, solved_linear, has_single, solved_same, all_same, middle_of, no_repeat, every_middle, not_below}
+use Rattle.lie_solved.proofs.OneForm.{lead_same, apart, solved_linear, has_single, solved_same, all_same, middle_of, no_repeat, every_middle}
+use Rattle.lie_gram.proofs.PrintedVariables.{not_less_test}
 
 -- ---- lists that are parted at two places
 head_same : {X : Type 0} (x y : X) (xs ys : List X) → x ∷ xs ≡ y ∷ ys → x ≡ y
@@ -54,7 +55,7 @@ data IsCauseAt (S : Space) (rs : List SolvedEquation) (e : EquationRead) : NotKi
 module _ (S : Space) (is : IsSpace S) where
   -- an equation that is solved has a derivative, and its lead is alone
   solved_derivative : (e : EquationRead) (r : SolvedEquation) → IsSolvedBy S e r → HasNoDerivative S e.diff → ⊥
-  solved_derivative e r h none = has_single r.lead (none r.lead (not_below r.lead (S.p + S.q) h.derivative) (single r.lead) (apart S e r h))
+  solved_derivative e r h none = has_single r.lead (none r.lead (not_less_test r.lead (S.p + S.q) h.derivative) (single r.lead) (apart S e r h))
 
   solved_straight : (e : EquationRead) (r : SolvedEquation) → IsSolvedBy S e r → HasLeadNotLinear S e → ⊥
   solved_straight e r h bent = bent.bent (subst (λ w. IsLinearIn w e.diff) (lead_same S is e r.lead bent.lead h.lead bent.is) (solved_linear S e r h))

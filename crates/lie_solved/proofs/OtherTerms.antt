@@ -32,10 +32,8 @@ use Rattle.lie_poly.specs.Failures.{IsStarved}
 use Rattle.lie_geometry.specs.SolvedEquations.{SolvedEquation, difference}
 use Rattle.lie_solved.specs.Equations.{turned, rest_of, IsLinearWith}
 use Rattle.lie_solved.proofs.LinearTerms.{exponent_single}
-
-pub entries_same : (es : List (Monomial × ℤ)) → entries (λ z. z) es ≡ es
-entries_same [] = refl
-entries_same (e ∷ es) = ap (λ xs. e ∷ xs) (entries_same es)
+use Rattle.lie_jet.proofs.Absolutes.{within_starved}
+use Rattle.lie_jet.proofs.TotalParts.{entries_same}
 
 -- ---- one more term
 rest_of-append : (w : ℕ) (b : Bool) (ts us : List (Monomial × ℤ)) → rest_of w b (ts ++ us) ≡ rest_of w b ts ++ rest_of w b us
@@ -138,18 +136,8 @@ rest_within w b P h =
     (within_rest w b P.list (entries_of terms P (λ e. FitsNumber e.1 × HasLowExponents e.0) (λ e is apart. (subst FitsNumber is (h.coefficients e.0), h.exponents e.0 (λ z. apart (sym is ∙ z))))))
     (let l = length-absolutes (rest_of w b P.list) in let m = length_rest w b P.list in let n = h.terms in omega arith)
 
--- what is past a limit is not within
-starved : (fail : PolyFail) (p : WholePolynomial) → IsWithinLimits p → IsCause fail p → IsStarved fail
-starved (Past Coefficient) p h c = let k = h.coefficients c.0 in let l = c.1 in absurd (omega arith)
-starved (Past Exponent) p h c = let k = h.exponents c.0 c.1 c.2.0 in let l = c.2.1 in absurd (omega arith)
-starved (Past Terms) p h c = let k = h.terms in absurd (omega arith)
-starved (Past Order) p h c = absurd c
-starved (Past Unknowns) p h c = absurd c
-starved (Past Width) p h c = absurd c
-starved NoMemory p h c = tt
-
 pub rest_starved : (w : ℕ) (b : Bool) (P : WholePolynomial) (rest : List (Monomial × ℤ)) (fail : PolyFail) → IsWithinLimits P → rest ≡ rest_of w b P.list → IsCause fail (polynomial_of (absolutes (entries (λ z. z) rest))) → IsStarved fail
-rest_starved w b P rest fail h e c = starved fail (polynomial_of (absolutes (rest_of w b P.list))) (rest_within w b P h) (subst (λ es. IsCause fail (polynomial_of (absolutes es))) (entries_same rest ∙ e) c)
+rest_starved w b P rest fail h e c = within_starved fail (polynomial_of (absolutes (rest_of w b P.list))) (rest_within w b P h) (subst (λ es. IsCause fail (polynomial_of (absolutes es))) (entries_same rest ∙ e) c)
 
 pub err_starved : {X : Type 0} (P : PolyFail → Type 0) → ((fail : PolyFail) → P fail → IsStarved fail) → (r : Result X PolyFail) → IfErr r P → IfErr r IsStarved
 err_starved P f (Ok x) h = tt

@@ -25,8 +25,10 @@ use Rattle.lie_solved.specs.SolvedForms.{solved_equation, solved_equations, IsSo
 use Rattle.lie_solved.specs.Refusals.{ArePassed, IsReached, HasLeadNotLinear, HasNoLead, IsFirstInside, IsRefusal}
 use Rattle.lie_solved.specs.Equations.{IsWritten, IsRule, AreRules, HasLead, IsLinearWith, turned, rest_of, is_plain, variables_in, variables_of}
 use Rattle.lie_solved.specs.Causes.{IsRuleCause, failed_at}
-use Rattle.lie_solved.proofs.Variables.{every-append, in_every, every_in, variables_in_more, variables_of_more}
+use Rattle.lie_solved.proofs.Variables.{in_every, every_in, variables_in_more, variables_of_more}
 use Rattle.lie_solved.proofs.OtherTerms.{free_rest, sides}
+use Rattle.lie_solved.proofs.Greatest.{found_left, found_right, eqb_itself}
+use Rattle.lie_ring.proofs.Fronts.{every-append}
 
 -- ---- one equation
 -- a number that is not 0 is positive without its sign
@@ -62,18 +64,6 @@ cause_at S e (Not LeadRepeated) k h es rs at = absurd h
 cause_at S e (Not LeadInside) k h es rs at = absurd h
 cause_at S e NoMemory k h es rs at = tt
 
--- ---- the leads of rules
-eqb_itself : (a : ℕ) → eqb a a ≡ true
-eqb_itself a = grind (arith, nat_tests)
-
-or_true : (a b : Bool) → b ≡ true → (a || b) ≡ true
-or_true true b e = refl
-or_true false b e = e
-
-first_true : (a b : Bool) → a ≡ true → (a || b) ≡ true
-first_true true b e = refl
-first_true false b e = absurd (true≢false (sym e))
-
 or_false : (a b : Bool) → a ≡ false → b ≡ false → (a || b) ≡ false
 or_false true b e f = e
 or_false false b e f = f
@@ -88,8 +78,8 @@ right_false false b e = e
 
 pub lead_at : (S : Space) (rules : List LeadRule) (i : ℕ) (r : LeadRule) → i < length rules → r ≡ get_or rules i r → is_lead (solved_equations S rules) (number S (coordinate_of S r.lead)) ≡ true
 lead_at S [] i r lt is = absurd (omega arith)
-lead_at S (x ∷ rules) zero r lt is = first_true _ _ (ap (λ (y : LeadRule). eqb (number S (coordinate_of S r.lead)) (number S (coordinate_of S y.lead))) (sym is) ∙ eqb_itself (number S (coordinate_of S r.lead)))
-lead_at S (x ∷ rules) (suc i) r lt is = or_true _ _ (lead_at S rules i r (omega arith) is)
+lead_at S (x ∷ rules) zero r lt is = found_left _ _ (ap (λ (y : LeadRule). eqb (number S (coordinate_of S r.lead)) (number S (coordinate_of S y.lead))) (sym is) ∙ eqb_itself (number S (coordinate_of S r.lead)))
+lead_at S (x ∷ rules) (suc i) r lt is = found_right _ _ (lead_at S rules i r (omega arith) is)
 
 not_lead_at : (rs : List SolvedEquation) (w k : ℕ) (d : SolvedEquation) → is_lead rs w ≡ false → k < length rs → ¬ ((get_or rs k d).lead ≡ w)
 not_lead_at [] w k d h lt e = absurd (omega arith)
@@ -155,13 +145,13 @@ module _ (S : Space) where
 module _ (f : ℕ → Bool) where
   pub any_in_at : (ps : List (ℕ × ℕ)) (i : ℕ) (d : ℕ × ℕ) → i < length ps → f (get_or ps i d).0 ≡ true → list_any f (variables_in ps) ≡ true
   any_in_at [] i d lt e = absurd (omega arith)
-  any_in_at (p ∷ ps) zero d lt e = first_true (f p.0) (list_any f (variables_in ps)) e
-  any_in_at (p ∷ ps) (suc i) d lt e = or_true (f p.0) (list_any f (variables_in ps)) (any_in_at ps i d (omega arith) e)
+  any_in_at (p ∷ ps) zero d lt e = found_left (f p.0) (list_any f (variables_in ps)) e
+  any_in_at (p ∷ ps) (suc i) d lt e = found_right (f p.0) (list_any f (variables_in ps)) (any_in_at ps i d (omega arith) e)
 
   pub any_of_at : (ts : List (Monomial × ℤ)) (i : ℕ) (t : Monomial × ℤ) → i < length ts → t ≡ get_or ts i t → list_any f (variables_in (t.0).list) ≡ true → list_any f (variables_of ts) ≡ true
   any_of_at [] i t lt is e = absurd (omega arith)
-  any_of_at (u ∷ ts) zero t lt is e = list_any-append f (variables_in (u.0).list) (variables_of ts) ∙ first_true _ (list_any f (variables_of ts)) (ap (λ (x : Monomial × ℤ). list_any f (variables_in (x.0).list)) (sym is) ∙ e)
-  any_of_at (u ∷ ts) (suc i) t lt is e = list_any-append f (variables_in (u.0).list) (variables_of ts) ∙ or_true (list_any f (variables_in (u.0).list)) _ (any_of_at ts i t (omega arith) is e)
+  any_of_at (u ∷ ts) zero t lt is e = list_any-append f (variables_in (u.0).list) (variables_of ts) ∙ found_left _ (list_any f (variables_of ts)) (ap (λ (x : Monomial × ℤ). list_any f (variables_in (x.0).list)) (sym is) ∙ e)
+  any_of_at (u ∷ ts) (suc i) t lt is e = list_any-append f (variables_in (u.0).list) (variables_of ts) ∙ found_right (list_any f (variables_in (u.0).list)) _ (any_of_at ts i t (omega arith) is e)
 
   pub none_in_more : (ps : List (ℕ × ℕ)) (i : ℕ) (d : ℕ × ℕ) → i < length ps → list_any f (variables_in (take i ps)) ≡ false → f (get_or ps i d).0 ≡ false → list_any f (variables_in (take (i + 1) ps)) ≡ false
   none_in_more ps i d lt h e =

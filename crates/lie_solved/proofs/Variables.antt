@@ -12,13 +12,10 @@ use Rattle.lie_math.proofs.Kept.{kept-terms, pairs_in, terms_in}
 use Rattle.lie_math.proofs.Variables.{kept_in}
 use Rattle.lie_solved.specs.Leads.{Occurs}
 use Rattle.lie_solved.specs.Equations.{variables_in, variables_of}
+use Rattle.lie_ring.proofs.Fronts.{every-append}
 
 -- ---- lists
 module _ {X : Type 0} (Q : X → Type 0) where
-  pub every-append : (xs ys : List X) → Every Q xs → Every Q ys → Every Q (xs ++ ys)
-  every-append [] ys h k = k
-  every-append (x ∷ xs) ys h k = (h.0, every-append xs ys h.1 k)
-
   pub every_front : (xs ys : List X) → Every Q (xs ++ ys) → Every Q xs
   every_front [] ys h = tt
   every_front (x ∷ xs) ys h = (h.0, every_front xs ys h.1)
@@ -26,11 +23,6 @@ module _ {X : Type 0} (Q : X → Type 0) where
   pub every_back : (xs ys : List X) → Every Q (xs ++ ys) → Every Q ys
   every_back [] ys h = h
   every_back (x ∷ xs) ys h = every_back xs ys h.1
-
-  pub every_at : (xs : List X) (i : ℕ) (d : X) → i < length xs → Every Q xs → Q (get_or xs i d)
-  every_at [] i d lt h = absurd (omega arith)
-  every_at (x ∷ xs) zero d lt h = h.0
-  every_at (x ∷ xs) (suc i) d lt h = every_at xs i d (omega arith) h.1
 
 pub every_found : (Q : ℕ → Type 0) (ws : List ℕ) (w : ℕ) → Every Q ws → list_any (λ v. eqb v w) ws ≡ true → Q w
 every_found Q [] w h k = absurd (true≢false (sym k))
@@ -108,12 +100,6 @@ pub variable_at : (Q : ℕ → Type 0) (ps : List (ℕ × ℕ)) (i : ℕ) (d : �
 variable_at Q [] i d lt h = absurd (omega arith)
 variable_at Q (q ∷ ps) zero d lt h = h.0
 variable_at Q (q ∷ ps) (suc i) d lt h = variable_at Q ps i d (omega arith) h.1
-
-pub take_all : {X : Type 0} (xs : List X) (i : ℕ) → length xs ≤ i → take i xs ≡ xs
-take_all [] zero le = refl
-take_all [] (suc i) le = refl
-take_all (x ∷ xs) zero le = absurd (omega arith)
-take_all (x ∷ xs) (suc i) le = ap (λ ys. x ∷ ys) (take_all xs i (omega arith))
 
 pub variables_at : (Q : ℕ → Type 0) (ts : List (Monomial × ℤ)) (i : ℕ) (t : Monomial × ℤ) → i < length ts → t ≡ get_or ts i t → Every Q (variables_of ts) → Every Q (variables_in (t.0).list)
 variables_at Q [] i t lt is h = absurd (omega arith)

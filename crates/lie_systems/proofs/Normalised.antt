@@ -8,8 +8,7 @@ use Rattle.std.proofs.lemmas.Nat.Gcd.{dvd_refl}
 use Rattle.std.proofs.Math.Nat.{eq_of_mul-eq-mul_left, eq-zero_of_zero-dvd, mul-div_cancel'}
 use Rattle.lie_math.specs.SortedSum.{is_canonical}
 use Rattle.lie_math.specs.FiniteSum as finite
-use Rattle.lie_math.specs.Monomial.{Monomial, ◌·◌, unit}
-use Rattle.lie_math.specs.MonomialOrder.{·_comm, ·_idl}
+use Rattle.lie_math.specs.Monomial.{Monomial, unit}
 use Rattle.lie_math.specs.Polynomial.{WholePolynomial, terms, term}
 use Rattle.lie_math.specs.Counts.{Derivative}
 use Rattle.lie_math.specs.LinearForm.{forms, LinearForm, times_form}
@@ -21,6 +20,7 @@ use Rattle.lie_systems.specs.Triples.{Triple, triples, triples_in, triples_with,
 use Rattle.lie_systems.specs.Normalised.{content, common_monomial, IsFirstPositive, IsPrimitive, sign, first_sign, primitive_triples}
 use Rattle.lie_systems.proofs.Divisibility.{all_divided, all_common, content-times, common_monomial-times, sign_twice, size-sign, sign_divided, number_back, divided_back}
 use Rattle.lie_systems.proofs.Triples.{times_triple, times_form-sum, triples-times, sum_of_triples-triples}
+use Rattle.lie_math.proofs.Monomial.{·_idr}
 
 -- ---- the first triple of a form that is not nothing
 pub record First (ts : List Triple) : Type 0 where
@@ -49,7 +49,7 @@ first_sign_twice : (ts : List Triple) → first_sign ts *ℤ first_sign ts ≡ p
 first_sign_twice [] = refl
 first_sign_twice (t ∷ ts) = sign_twice t.2
 
-size-first_sign : (ts : List Triple) → unsigned_abs (first_sign ts) ≡ 1
+pub size-first_sign : (ts : List Triple) → unsigned_abs (first_sign ts) ≡ 1
 size-first_sign [] = refl
 size-first_sign (t ∷ ts) = size-sign t.2
 
@@ -57,7 +57,7 @@ size-first_sign (t ∷ ts) = size-sign t.2
 abbrev pub signed_content : List Triple → ℤ
 signed_content ts = first_sign ts *ℤ pos (content ts)
 
-size-signed_content : (ts : List Triple) → unsigned_abs (signed_content ts) ≡ content ts
+pub size-signed_content : (ts : List Triple) → unsigned_abs (signed_content ts) ≡ content ts
 size-signed_content ts = unsigned_abs-mul (first_sign ts) (pos (content ts)) ∙ ap (λ n. n * content ts) (size-first_sign ts) ∙ plain (content ts)
   where
     plain : (n : ℕ) → 1 * n ≡ n
@@ -75,9 +75,6 @@ content_positive ts f = go (content ts) (content_divides_head ts f)
 
 pub signed_content_apart : (ts : List Triple) → First ts → ¬ (signed_content ts ≡ pos 0)
 signed_content_apart ts f e = let p = content_positive ts f in let z : content ts ≡ 0 = sym (size-signed_content ts) ∙ ap unsigned_abs e in omega arith
-
-pub times_unit : (m : Monomial) → m · unit ≡ m
-times_unit m = ·_comm m unit ∙ ·_idl m
 
 -- ---- what is left when it is divided out
 abbrev pub primitive_part : List Triple → LinearForm
@@ -102,7 +99,7 @@ module _ (ts us : List Triple) (f : First ts) (same : ts ≡ map (times_triple (
     where
       go : (vs : List Triple) → ts ≡ map (times_triple (common_monomial ts) (signed_content ts)) vs → common_monomial vs ≡ unit
       go [] e = refl
-      go (v ∷ vs) e = cancel_mono (common_monomial ts) (common_monomial (v ∷ vs)) unit (sym (common_monomial-times (common_monomial ts) (signed_content ts) v vs) ∙ ap common_monomial (sym e) ∙ sym (times_unit (common_monomial ts)))
+      go (v ∷ vs) e = cancel_mono (common_monomial ts) (common_monomial (v ∷ vs)) unit (sym (common_monomial-times (common_monomial ts) (signed_content ts) v vs) ∙ ap common_monomial (sym e) ∙ sym (·_idr (common_monomial ts)))
 
   first_of_part : IsFirstPositive us
   first_of_part = go us (sym f.is ∙ same)

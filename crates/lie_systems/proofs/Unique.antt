@@ -12,15 +12,16 @@ use Rattle.lie_math.specs.MonomialOrder.{·_assoc, ·_idl}
 use Rattle.lie_math.specs.Polynomial.{WholePolynomial, terms, term, constant, ◌*ᴾ◌}
 use Rattle.lie_math.specs.Counts.{Derivative}
 use Rattle.lie_math.specs.LinearForm.{forms, LinearForm, no_form, times_form}
-use Rattle.lie_math.proofs.Integer.{cancel_ℤ, not_zero, product_not_zero, unsigned_abs_zero}
+use Rattle.lie_math.proofs.Integer.{cancel_ℤ, product_not_zero, unsigned_abs_zero, one_not_zero}
 use Rattle.lie_math.proofs.Limits.{by_test, term_apart, one_apart}
 use Rattle.lie_math.proofs.ZeroDivisors.{cancel_mono}
 use Rattle.lie_systems.specs.Triples.{Triple, triples, sum_of_triples}
 use Rattle.lie_systems.specs.Normalised.{content, common_monomial, IsFirstPositive, IsPrimitive, derivative_alone, IsNormalised, primitive, primitive_of}
 use Rattle.lie_systems.proofs.Divisibility.{content-times, common_monomial-times}
-use Rattle.lie_systems.proofs.Normalised.{first_of, times_unit, signed_content, signed_content_apart, primitive_part, times-primitive_part}
+use Rattle.lie_systems.proofs.Normalised.{first_of, signed_content, signed_content_apart, primitive_part, times-primitive_part}
 use Rattle.lie_systems.proofs.Primitive.{length-each, primitive_normalised}
 use Rattle.lie_systems.proofs.Triples.{times_triple, each_times, list-times_form, triples-times, triples_tell, times_form-sum, sum_of_triples-triples}
+use Rattle.lie_math.proofs.Monomial.{·_idr}
 
 -- ---- lists
 no_cons : {X : Type 0} {x : X} {xs : List X} → x ∷ xs ≡ [] → ⊥
@@ -79,8 +80,8 @@ module _ (m n : Monomial) (a b : ℤ) (ts us : List Triple) (same : map (times_t
       go [] ws f g h k e = absurd f
       go (v ∷ vs) [] f g h k e = absurd g
       go (v ∷ vs) (w ∷ ws) f g h k e =
-          sym (times_unit m) ∙ ap (λ x. m · x) (sym h) ∙ sym (common_monomial-times m a v vs) ∙ ap common_monomial e
-          ∙ common_monomial-times n b w ws ∙ ap (λ x. n · x) k ∙ times_unit n
+          sym (·_idr m) ∙ ap (λ x. m · x) (sym h) ∙ sym (common_monomial-times m a v vs) ∙ ap common_monomial e
+          ∙ common_monomial-times n b w ws ∙ ap (λ x. n · x) k ∙ ·_idr n
 
   same_number : ¬ (a ≡ pos 0) → IsFirstPositive ts → IsFirstPositive us → unsigned_abs a ≡ unsigned_abs b → a ≡ b
   same_number apart f g sizes = go ts us f g same
@@ -198,9 +199,6 @@ times_form-one E = ap (times_form (term unit (pos 1))) (sym (sum_of_triples-trip
     same : (ts : List Triple) → map (times_triple unit (pos 1)) ts ≡ ts
     same [] = refl
     same (t ∷ ts) = ap₂ ◌∷◌ (ap₂ (λ x y. (t.0, x, y)) (·_idl t.1) (*ℤ-idl t.2)) (same ts)
-
-one_not_zero : ¬ (pos 1 ≡ pos 0)
-one_not_zero = not_zero 1 (omega arith)
 
 pub primitive-normalised : (N : LinearForm) → IsNormalised N → primitive N ≡ N
 primitive-normalised N (inl p) = one_alone N (p.0, constant (pos 1)) (ap (λ (G : LinearForm). G.list) p.1 ∙ list-derivative_alone p.0) ∙ sym p.1

@@ -3,9 +3,10 @@ use Rattle.std.specs.Prelude.{ℤ, unsigned_abs}
 use Rattle.std.specs.Int.{◌∣◌}
 use Rattle.std.specs.List.{AllByRecursion as Every}
 use Rattle.lie_math.specs.Monomial.{Monomial}
-use Rattle.lie_gram.proofs.EquationSteps.{entries_same}
-use Rattle.lie_gram.proofs.FieldSteps.{every_at, take_all, divided_made}
+use Rattle.lie_gram.proofs.FieldSteps.{divided_made}
 use Rattle.lie_gram.proofs.field_parts.divided.Goals as goal
+use Rattle.lie_jet.proofs.TotalParts.{entries_same}
+use Rattle.lie_ring.proofs.Fronts.{every_at, all_taken}
 
 pub push_divided-requires-clause-divides : goal.push_divided-requires-clause-divides
 push_divided-requires-clause-divides c =
@@ -15,5 +16,5 @@ push_divided-requires-clause-divides c =
 pub returns-in-Ok : goal.returns-in-Ok
 returns-in-Ok c =
     divided_made c.args.divisor c.loop-term.list.items c.as_slice.result.now c.args.part.now c.in-Ok.part
-    (c.loop-term.invariant ∙ take_all c.as_slice-term-items.result.now c.loop-term.term-index (omega (arith, c.loop-term-test.false)) ∙ c.as_slice-term-items.ensures.value ∙ sym (entries_same c.in_ok-terms.terms.items) ∙ c.in_ok-terms.ensures)
+    (c.loop-term.invariant ∙ all_taken c.as_slice-term-items.result.now c.loop-term.term-index (omega (arith, c.loop-term-test.false)) ∙ c.as_slice-term-items.ensures.value ∙ sym (entries_same c.in_ok-terms.terms.items) ∙ c.in_ok-terms.ensures)
     c.as_slice.ensures.value c.in-Ok.ensures.sum

@@ -1,7 +1,7 @@
 use Rattle.std.proofs.Common.{arith, sym, ◌∙◌}
-use Rattle.lie_gram.proofs.EquationSteps.{entries_same}
 use Rattle.lie_gram.proofs.FieldSteps.{content_done}
 use Rattle.lie_gram.proofs.field_parts.divisor_of.Goals as goal
+use Rattle.lie_jet.proofs.TotalParts.{entries_same}
 
 pub returns-clause-value : goal.returns-clause-value
 returns-clause-value c =

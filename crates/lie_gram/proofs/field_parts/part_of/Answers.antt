@@ -1,9 +1,10 @@
 use Rattle.std.proofs.Common.{arith, sym, ap, ◌∙◌, ◌++◌, ◌∷◌, [], take}
 use Rattle.lie_math.specs.Polynomial.{polynomial_of}
 use Rattle.lie_gram.specs.FieldMeaning.{terms_over}
-use Rattle.lie_gram.proofs.EquationSteps.{entries_same}
-use Rattle.lie_gram.proofs.FieldSteps.{take_more, take_all, terms_over-append}
+use Rattle.lie_gram.proofs.FieldSteps.{terms_over-append}
 use Rattle.lie_gram.proofs.field_parts.part_of.Goals as goal
+use Rattle.lie_jet.proofs.TotalParts.{entries_same}
+use Rattle.lie_ring.proofs.Fronts.{take_more, all_taken}
 
 pub loop-term-preserved : goal.loop-term-preserved
 loop-term-preserved c =
@@ -14,4 +15,4 @@ loop-term-preserved c =
 pub returns-in-Ok : goal.returns-in-Ok
 returns-in-Ok c =
     c.in-Ok.ensures.sum
-    ∙ ap polynomial_of (entries_same c.as_slice.result.now ∙ c.as_slice.ensures.value ∙ c.loop-term.invariant ∙ ap (terms_over c.args.denominator c.args.place) (take_all c.args.terms.now c.loop-term.term-index (omega (arith, c.loop-term-test.false))))
+    ∙ ap polynomial_of (entries_same c.as_slice.result.now ∙ c.as_slice.ensures.value ∙ c.loop-term.invariant ∙ ap (terms_over c.args.denominator c.args.place) (all_taken c.args.terms.now c.loop-term.term-index (omega (arith, c.loop-term-test.false))))

@@ -3,8 +3,9 @@ use Rattle.std.specs.List.{AllByRecursion as Every}
 use Rattle.std.proofs.Common.{sym, subst, ◌∙◌}
 use Rattle.lie_math.specs.Monomial.{Monomial}
 use Rattle.lie_gram.specs.RightSides.{Leaves}
-use Rattle.lie_gram.proofs.RightSideLists.{right_terms, entries_same}
+use Rattle.lie_gram.proofs.RightSideLists.{right_terms}
 use Rattle.lie_gram.proofs.right_side.right_side.Goals as goal
+use Rattle.lie_jet.proofs.TotalParts.{entries_same}
 
 pub turned_terms-requires : goal.turned_terms-requires
 turned_terms-requires c = subst (λ (l : List (Monomial × ℤ)). Every (Leaves c.args.lead) l) (sym (c.as_slice.ensures.value ∙ sym (entries_same c.in_ok-terms.terms.items) ∙ c.in_ok-terms.ensures)) c.requires

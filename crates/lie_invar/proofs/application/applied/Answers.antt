@@ -4,12 +4,12 @@ use Rattle.lie_math.specs.Limits.{absolute}
 use Rattle.lie_math.specs.PartialDerivative.{partial}
 use Rattle.lie_math.specs.Polynomial.{◌+ᴾ◌, ◌*ᴾ◌}
 use Rattle.lie_math.specs.PolynomialRing.{polynomial_of-none}
-use Rattle.lie_poly.proofs.TimesSteps.{all_taken}
 use Rattle.lie_jet.specs.Listed.{sum_listed, bulk_listed}
 use Rattle.lie_jet.proofs.TotalSteps.{if_err}
 use Rattle.lie_invar.specs.Applications.{sides}
 use Rattle.lie_invar.proofs.ApplicationSteps.{applied_more, sized, sized_more, sized_cause, part_of_all}
 use Rattle.lie_invar.proofs.application.applied.Goals as goal
+use Rattle.lie_ring.proofs.Fronts.{all_taken}
 
 pub loop-coefficient-init : goal.loop-coefficient-init
 loop-coefficient-init c = (ap sum_listed c.new-made.ensures.items ∙ polynomial_of-none, ap bulk_listed c.new-made.ensures.items ∙ polynomial_of-none)

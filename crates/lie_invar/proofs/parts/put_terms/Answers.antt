@@ -1,9 +1,9 @@
 use Rattle.std.proofs.Common.{arith, sym, ◌∙◌}
 use Rattle.lie_geometry.specs.Prolongation.{is_in_z}
 use Rattle.lie_jet.specs.Derivatives.{derivative_of}
-use Rattle.lie_lin.proofs.Forms.{entries_same}
 use Rattle.lie_invar.proofs.BucketLists.{term_more, terms_all}
 use Rattle.lie_invar.proofs.parts.put_terms.Goals as goal
+use Rattle.lie_jet.proofs.TotalParts.{entries_same}
 
 pub loop-mono-preserved : goal.loop-mono-preserved
 loop-mono-preserved c =

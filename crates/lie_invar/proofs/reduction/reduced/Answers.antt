@@ -3,7 +3,6 @@ use Rattle.std.proofs.lemmas.Result.{err_from_is_err_and}
 use Rattle.lie_math.specs.Limits.{absolute}
 use Rattle.lie_math.specs.Polynomial.{◌+ᴾ◌}
 use Rattle.lie_math.specs.PolynomialRing.{polynomial_of-none}
-use Rattle.lie_poly.proofs.TimesSteps.{all_taken}
 use Rattle.lie_jet.specs.Listed.{sum_listed, bulk_listed}
 use Rattle.lie_jet.proofs.TotalParts.{listed_terms, if_ok}
 use Rattle.lie_jet.proofs.TotalSteps.{if_err}
@@ -12,6 +11,7 @@ use Rattle.lie_invar.specs.ReducedTerms.{reduced_term}
 use Rattle.lie_invar.proofs.ReductionSteps.{total, total_more, sized_term, reduced_total, sum_cause, term_cause, entry_apart}
 use Rattle.lie_invar.proofs.reduction.reduced.Goals as goal
 use Rattle.lie_invar.proofs.reduction.reduced.Goals.{After-deref-term-items}
+use Rattle.lie_ring.proofs.Fronts.{all_taken}
 
 listed : (c : After-deref-term-items) → c.deref-term-items.result.now ≡ c.args.p.now.list
 listed c = listed_terms c.args.p.now c.deref-term-items.result.now c.in-Ok.terms.items c.deref-term-items.ensures.value c.in-Ok.ensures

@@ -3,13 +3,13 @@ use Rattle.std.proofs.lemmas.Result.{err_from_is_err_and}
 use Rattle.lie_math.specs.Limits.{absolute}
 use Rattle.lie_math.specs.Polynomial.{◌*ᴾ◌}
 use Rattle.lie_ring.specs.Causes.{IsCause}
-use Rattle.lie_poly.proofs.TimesSteps.{all_taken}
 use Rattle.lie_solved.specs.SolvedForms.{solved_equations}
 use Rattle.lie_invar.specs.ReducedTerms.{IsKept}
 use Rattle.lie_invar.proofs.Factors.{product, product_more, product_cause, every_rest, read_same}
 use Rattle.lie_invar.proofs.PowerSteps.{times_one}
 use Rattle.lie_invar.proofs.Replacing.{replaced_power, replaced_bulk, replaced_is, replaced_bulk_is, replaced_bounded, kept_proper, now_apart}
 use Rattle.lie_invar.proofs.reduction.times_all.Goals as goal
+use Rattle.lie_ring.proofs.Fronts.{all_taken}
 
 pub loop-pair-init : goal.loop-pair-init
 loop-pair-init c = sym (times_one c.args.poly)

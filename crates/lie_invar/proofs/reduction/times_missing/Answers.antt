@@ -3,12 +3,12 @@ use Rattle.std.proofs.lemmas.Result.{err_from_is_err_and}
 use Rattle.lie_math.specs.Monomial.{unit}
 use Rattle.lie_math.specs.Polynomial.{◌*ᴾ◌}
 use Rattle.lie_math.proofs.Limits.{term_apart}
-use Rattle.lie_poly.proofs.TimesSteps.{all_taken}
 use Rattle.lie_solved.specs.declared.solved.LeadRule.{LeadRule}
 use Rattle.lie_invar.proofs.Factors.{product, every_rest}
 use Rattle.lie_invar.proofs.PowerSteps.{times_one}
 use Rattle.lie_invar.proofs.Replacing.{missing_power, missing_is, missing_count, missing_more, missing_cause}
 use Rattle.lie_invar.proofs.reduction.times_missing.Goals as goal
+use Rattle.lie_ring.proofs.Fronts.{all_taken}
 
 pub loop-i-init : goal.loop-i-init
 loop-i-init c = λ e h. sym (times_one c.args.poly)

@@ -1,7 +1,7 @@
 use Rattle.std.proofs.Common.{subst, ◌++◌, ◌∷◌, []}
-use Rattle.lie_poly.proofs.TimesSteps.{all_taken}
 use Rattle.lie_invar.proofs.AbsoluteRules.{AreAbsoluteRules, pushed, rules_more, absolute_equations_are, absolute_rules_ready}
 use Rattle.lie_invar.proofs.sizes.absolute_rules.Goals as goal
+use Rattle.lie_ring.proofs.Fronts.{all_taken}
 
 pub loop-rule-preserved : goal.loop-rule-preserved
 loop-rule-preserved c = rules_more c.args.rules.now c.loop-rule.made.items c.push.new.self.items c.loop-rule.rule-index c.rule-item.result c.in_ok-absolute_rule.field-0 c.loop-rule-test.true c.rule-item.is c.loop-rule.invariant c.in_ok-absolute_rule.ensures.rule (pushed c.push.new.self.items (c.loop-rule.made.items ++ c.in_ok-absolute_rule.field-0 ∷ []) c.loop-rule.made.items _ c.push.ensures.items c.if-is_err.ensures.negation)

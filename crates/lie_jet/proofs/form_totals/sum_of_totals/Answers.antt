@@ -3,7 +3,6 @@ use Rattle.std.proofs.lemmas.Result.{err_from_is_err_and}
 use Rattle.lie_math.specs.LinearForm.{LinearForm, ◌+ᶠ◌}
 use Rattle.lie_math.specs.Polynomial.{WholePolynomial}
 use Rattle.lie_geometry.specs.Coordinates.{Space}
-use Rattle.lie_poly.proofs.TimesSteps.{all_taken}
 use Rattle.lie_jet.specs.Derivatives.{derivative_of, derivative_terms}
 use Rattle.lie_jet.specs.FormTotals.{total_of_term}
 use Rattle.lie_jet.specs.Jets.{IsSmall}
@@ -13,6 +12,7 @@ use Rattle.lie_jet.proofs.FormBounds.{over_entries}
 use Rattle.lie_jet.proofs.FormSteps.{entry_low, entry_cause, entries_step, total_is}
 use Rattle.lie_jet.proofs.form_totals.sum_of_totals.Goals as goal
 use Rattle.lie_jet.proofs.form_totals.sum_of_totals.Goals.{After-terms-term-items}
+use Rattle.lie_ring.proofs.Fronts.{all_taken}
 
 small : (c : After-terms-term-items) → IsSmall c.args.space
 small c =

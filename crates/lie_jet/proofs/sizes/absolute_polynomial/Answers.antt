@@ -3,13 +3,13 @@ use Rattle.std.proofs.Common.{ℕ, subst, ◌≡◌, ◌∙◌, ap, ◌++◌, Li
 use Rattle.std.specs.Prelude.{ℤ}
 use Rattle.lie_math.specs.Limits.{absolutes}
 use Rattle.lie_math.specs.Monomial.{Monomial}
-use Rattle.lie_poly.proofs.TimesSteps.{all_taken}
 use Rattle.lie_jet.proofs.Absolutes.{sizes_sum, sizes_starved}
 use Rattle.lie_jet.proofs.DerivativeLists.{take_map}
 use Rattle.lie_jet.proofs.TotalParts.{listed_terms, if_ok}
 use Rattle.lie_jet.proofs.TotalSteps.{if_err}
 use Rattle.lie_jet.proofs.sizes.absolute_polynomial.Goals as goal
 use Rattle.lie_jet.proofs.sizes.absolute_polynomial.Goals.{After-deref-term-items}
+use Rattle.lie_ring.proofs.Fronts.{all_taken}
 
 pub loop-term-preserved : goal.loop-term-preserved
 loop-term-preserved c =

@@ -7,11 +7,11 @@ use Rattle.lie_math.specs.PolynomialRing.{polynomial_ring}
 use Rattle.lie_math.proofs.Ring.{plus_idr}
 use Rattle.lie_geometry.specs.Prolongation.{total_derivative}
 use Rattle.lie_poly.proofs.SumSteps.{cause_covered}
-use Rattle.lie_poly.proofs.TimesSteps.{all_taken}
 use Rattle.lie_jet.specs.Listed.{sum_listed, bulk_listed}
 use Rattle.lie_jet.proofs.ChainRules.{part, parts}
 use Rattle.lie_jet.proofs.TotalParts.{entries_more, power_at, variable_below, total_term, part_covered}
 use Rattle.lie_jet.proofs.totals.push_total.Goals as goal
+use Rattle.lie_ring.proofs.Fronts.{all_taken}
 
 pub loop-var-init : goal.loop-var-init
 loop-var-init c = record { sum = sym (plus_idr polynomial_ring _); bulk = sym (plus_idr polynomial_ring _) }

@@ -7,13 +7,13 @@ use Rattle.lie_geometry.specs.Coordinates.{Space, coordinates_up_to}
 use Rattle.lie_geometry.specs.Prolongation.{total_derivative}
 use Rattle.lie_ring.specs.Causes.{IsCause}
 use Rattle.lie_poly.proofs.SumSteps.{cause_covered}
-use Rattle.lie_poly.proofs.TimesSteps.{all_taken}
 use Rattle.lie_jet.specs.Jets.{IsSmall}
 use Rattle.lie_jet.specs.Listed.{sum_listed, bulk_listed}
 use Rattle.lie_jet.proofs.TotalSteps.{on_ok, if_err}
 use Rattle.lie_jet.proofs.TotalParts.{total_none, entry_covered, listed_terms, listed_sum, listed_bulk, term_fine, total_more, total_more_bulk, if_ok}
 use Rattle.lie_jet.proofs.totals.total.Goals as goal
 use Rattle.lie_jet.proofs.totals.total.Goals.{After-deref-term-items}
+use Rattle.lie_ring.proofs.Fronts.{all_taken}
 
 small : (c : After-deref-term-items) → IsSmall c.args.space
 small c =

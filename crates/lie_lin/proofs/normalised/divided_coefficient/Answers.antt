@@ -2,10 +2,11 @@ use Rattle.std.proofs.Common.{arith, ◌≡◌, ◌++◌, ◌∷◌, [], sym, ap
 use Rattle.std.specs.List.{AllByRecursion as Every}
 use Rattle.lie_math.proofs.TermWise.{times_list}
 use Rattle.lie_lin.specs.Powers.{IsDividedTerm}
-use Rattle.lie_lin.proofs.Forms.{entries_same}
-use Rattle.lie_lin.proofs.DividedForms.{every_at, take_more, take_all, coefficient_made, not_err}
+use Rattle.lie_lin.proofs.DividedForms.{coefficient_made, not_err}
 use Rattle.lie_lin.proofs.DividedLimits.{divided_starved}
 use Rattle.lie_lin.proofs.normalised.divided_coefficient.Goals as goal
+use Rattle.lie_jet.proofs.TotalParts.{entries_same}
+use Rattle.lie_ring.proofs.Fronts.{every_at, take_more, all_taken}
 
 pub push_divided-requires-clause-divides : goal.push_divided-requires-clause-divides
 push_divided-requires-clause-divides c =
@@ -21,11 +22,11 @@ loop-term-preserved c =
 pub returns-clause-rest : goal.returns-clause-rest
 returns-clause-rest c =
     coefficient_made c.args.mono.now c.args.number c.loop-term.out.items c.as_slice.result.now c.args.coefficient.now
-    (c.loop-term.invariant ∙ take_all c.as_slice-term-items.result.now c.loop-term.term-index (omega (arith, c.loop-term-test.false)) ∙ c.as_slice-term-items.ensures.value ∙ sym (entries_same c.in-Ok.terms.items) ∙ c.in-Ok.ensures)
+    (c.loop-term.invariant ∙ all_taken c.as_slice-term-items.result.now c.loop-term.term-index (omega (arith, c.loop-term-test.false)) ∙ c.as_slice-term-items.ensures.value ∙ sym (entries_same c.in-Ok.terms.items) ∙ c.in-Ok.ensures)
     c.as_slice.ensures.value c.of_terms.result c.of_terms.ensures.sum
 
 pub returns-clause-memory : goal.returns-clause-memory
 returns-clause-memory c =
     divided_starved c.args.mono.now c.args.number c.requires.apart c.as_slice.result.now c.loop-term.out.items c.args.coefficient.now c.len.ensures.limits c.as_slice.ensures.value
-    (c.loop-term.invariant ∙ take_all c.as_slice-term-items.result.now c.loop-term.term-index (omega (arith, c.loop-term-test.false)) ∙ c.as_slice-term-items.ensures.value ∙ sym (entries_same c.in-Ok.terms.items) ∙ c.in-Ok.ensures)
+    (c.loop-term.invariant ∙ all_taken c.as_slice-term-items.result.now c.loop-term.term-index (omega (arith, c.loop-term-test.false)) ∙ c.as_slice-term-items.ensures.value ∙ sym (entries_same c.in-Ok.terms.items) ∙ c.in-Ok.ensures)
     c.of_terms.result c.of_terms.ensures.past

@@ -3,8 +3,8 @@ use Rattle.std.specs.Int.{w128}
 use Rattle.std.specs.Prelude.{int_div}
 use Rattle.std.proofs.lemmas.Int.{fits_signed_from_abs, quot_is}
 use Rattle.lie_math.specs.Limits.{FitsNumber}
-use Rattle.lie_lin.proofs.ContentSteps.{quotient_back, quotient_fits}
 use Rattle.lie_lin.proofs.normalised.quotient.Goals as goal
+use Rattle.lie_systems.proofs.Divisibility.{quotient_back, quotient_fits}
 
 pub returns-in-Some : goal.returns-in-Some
 returns-in-Some c =

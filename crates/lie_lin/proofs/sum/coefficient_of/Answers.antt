@@ -2,8 +2,8 @@ use Rattle.std.proofs.Common.{ap, ◌∙◌, subst}
 use Rattle.lie_math.specs.Polynomial.{polynomial_of}
 use Rattle.lie_math.specs.Limits.{absolutes}
 use Rattle.lie_ring.specs.Causes.{IsCause}
-use Rattle.lie_lin.proofs.Gathering.{absolutes_twice}
 use Rattle.lie_lin.proofs.sum.coefficient_of.Goals as goal
+use Rattle.lie_jet.proofs.Absolutes.{absolutes_twice}
 
 pub returns-clause-past : goal.returns-clause-past
 returns-clause-past c =

@@ -3,9 +3,9 @@ use Rattle.std.proofs.lemmas.Result.{err_from_is_err_and}
 use Rattle.lie_math.proofs.TermWise.{derived_list}
 use Rattle.lie_ring.specs.Entries.{entries}
 use Rattle.lie_poly.proofs.TermLists.{entries_more, get-entries, length-entries}
-use Rattle.lie_poly.proofs.TimesSteps.{all_taken}
 use Rattle.lie_poly.proofs.DerivativeSteps.{AreFitting, derived-append, fitting_more, derived_sorted, derivative_cause}
 use Rattle.lie_poly.proofs.derivative.derive_terms.Goals as goal
+use Rattle.lie_ring.proofs.Fronts.{all_taken}
 
 pub loop-term-preserved : goal.loop-term-preserved
 loop-term-preserved g c =

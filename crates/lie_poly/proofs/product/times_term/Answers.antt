@@ -3,8 +3,9 @@ use Rattle.std.proofs.lemmas.Result.{err_from_is_err_and}
 use Rattle.lie_ring.specs.Entries.{entries}
 use Rattle.lie_poly.proofs.SumSteps.{from_empty}
 use Rattle.lie_poly.proofs.TermLists.{entries_more, length-entries}
-use Rattle.lie_poly.proofs.TimesSteps.{Multiplied, multiplied_start, multiplied_length, multiplied_more, multiplied_end, times_zero, factor_cause, never_full, length-take_in, all_taken}
+use Rattle.lie_poly.proofs.TimesSteps.{Multiplied, multiplied_start, multiplied_length, multiplied_more, multiplied_end, times_zero, factor_cause, never_full, length-take_in}
 use Rattle.lie_poly.proofs.product.times_term.Goals as goal
+use Rattle.lie_ring.proofs.Fronts.{all_taken}
 
 pub returns-then-size-eq0-clause-product : goal.returns-then-size-eq0-clause-product
 returns-then-size-eq0-clause-product g c =

@@ -6,7 +6,7 @@ use Rattle.lie_math.specs.VectorField.{component}
 use Rattle.lie_geometry.specs.Coordinates.{Space}
 use Rattle.lie_geometry.specs.Prolongation.{coefficient_at}
 use Rattle.lie_ring.specs.Causes.{IsCause}
-use Rattle.lie_poly.proofs.TimesSteps.{all_taken, length-take_in}
+use Rattle.lie_poly.proofs.TimesSteps.{length-take_in}
 use Rattle.lie_jet.specs.Jets.{IsSmall}
 use Rattle.lie_jet.specs.declared.jet.Jet.{Jet}
 use Rattle.lie_prolong.specs.Bulks.{bulk_at}
@@ -16,6 +16,7 @@ use Rattle.std.proofs.lemmas.Grind.{common_steps}
 use Rattle.std.proofs.lemmas.List.{map_push, length-map, take_more}
 use Rattle.lie_prolong.proofs.field.prolong_field.Goals as goal
 use Rattle.lie_prolong.proofs.field.prolong_field.Goals.{After-space, After-deref-jet-items}
+use Rattle.lie_ring.proofs.Fronts.{all_taken}
 
 small : (c : After-space) → IsSmall c.args.space
 small c =

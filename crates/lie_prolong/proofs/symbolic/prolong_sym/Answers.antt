@@ -5,7 +5,7 @@ use Rattle.lie_geometry.specs.Coordinates.{Space}
 use Rattle.lie_geometry.specs.SymbolicProlongation.{symbolic_coefficient_at}
 use Rattle.lie_systems.specs.Bulk.{IsWithinLimits}
 use Rattle.lie_jet.specs.FormLimits.{IsFormCause}
-use Rattle.lie_poly.proofs.TimesSteps.{all_taken, length-take_in}
+use Rattle.lie_poly.proofs.TimesSteps.{length-take_in}
 use Rattle.lie_jet.specs.Jets.{IsSmall}
 use Rattle.lie_jet.specs.declared.jet.Jet.{Jet}
 use Rattle.lie_prolong.specs.SymbolicBulks.{symbolic_bulk_at}
@@ -15,6 +15,7 @@ use Rattle.std.proofs.lemmas.Grind.{common_steps}
 use Rattle.std.proofs.lemmas.List.{map_push, length-map, take_more}
 use Rattle.lie_prolong.proofs.symbolic.prolong_sym.Goals as goal
 use Rattle.lie_prolong.proofs.symbolic.prolong_sym.Goals.{After-space, After-deref-jet-items}
+use Rattle.lie_ring.proofs.Fronts.{all_taken}
 
 small : (c : After-space) → IsSmall c.args.space
 small c =

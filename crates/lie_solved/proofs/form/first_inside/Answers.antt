@@ -3,9 +3,9 @@ use Rattle.std.specs.List.{list_any}
 use Rattle.lie_geometry.specs.SolvedEquations.{is_lead}
 use Rattle.lie_solved.specs.SolvedForms.{solved_equations}
 use Rattle.lie_solved.specs.Equations.{variables_of}
-use Rattle.lie_solved.proofs.OtherTerms.{entries_same}
 use Rattle.lie_solved.proofs.RuleSteps.{first_at, none_more}
 use Rattle.lie_solved.proofs.form.first_inside.Goals as goal
+use Rattle.lie_jet.proofs.TotalParts.{entries_same}
 
 pub returns-then-have_lead : goal.returns-then-have_lead
 returns-then-have_lead c =

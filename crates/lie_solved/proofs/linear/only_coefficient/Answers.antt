@@ -1,8 +1,8 @@
 use Rattle.std.proofs.Common.{arith, sym, subst, ◌∙◌, ◌+◌, take}
 use Rattle.lie_solved.proofs.LinearTerms.{IsFound, found_without, found_here, alone_without, alone_here, not_alone, all_found}
-use Rattle.lie_solved.proofs.Variables.{take_all}
 use Rattle.lie_solved.proofs.linear.only_coefficient.Goals as goal
 use Rattle.lie_solved.proofs.linear.only_coefficient.Goals.{then-exponent-ne0+else-not-is_single, else-exponent-ne0}
+use Rattle.lie_ring.proofs.Fronts.{all_taken}
 
 pub returns-then-not-is_single : goal.returns-then-not-is_single
 returns-then-not-is_single c = λ P e.
@@ -30,5 +30,5 @@ loop-term-preserved c =
 
 pub returns : goal.returns
 returns c = λ P e.
-    let all = take_all c.args.terms.now c.loop-term.term-index (omega (arith, c.loop-term-test.false)) in
+    let all = all_taken c.args.terms.now c.loop-term.term-index (omega (arith, c.loop-term-test.false)) in
     all_found c.args.number P c.args.terms.now e _ all c.loop-term.found c.loop-term.invariant.found c.loop-term.invariant.alone

@@ -5,8 +5,9 @@ use Rattle.lie_math.specs.Limits.{absolutes}
 use Rattle.lie_ring.specs.Causes.{IsCause}
 use Rattle.lie_ring.specs.Entries.{entries}
 use Rattle.lie_solved.specs.Equations.{rest_of}
-use Rattle.lie_solved.proofs.OtherTerms.{entries_same, err_starved, rest_starved}
+use Rattle.lie_solved.proofs.OtherTerms.{err_starved, rest_starved}
 use Rattle.lie_solved.proofs.linear.rest_of.Goals as goal
+use Rattle.lie_jet.proofs.TotalParts.{entries_same}
 
 pub returns-in-Ok-clause-value : goal.returns-in-Ok-clause-value
 returns-in-Ok-clause-value c =

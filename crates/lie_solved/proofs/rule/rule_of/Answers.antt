@@ -2,9 +2,9 @@ use Rattle.std.proofs.Common.{sym, ap, ◌∙◌}
 use Rattle.lie_math.specs.Polynomial.{polynomial_of}
 use Rattle.lie_gram.specs.Equations.{equation_read}
 use Rattle.lie_solved.specs.Equations.{rest_of}
-use Rattle.lie_solved.proofs.OtherTerms.{entries_same}
 use Rattle.lie_solved.proofs.RuleSteps.{rule_is, not_linear}
 use Rattle.lie_solved.proofs.rule.rule_of.Goals as goal
+use Rattle.lie_jet.proofs.TotalParts.{entries_same}
 
 pub lead_of-requires-clause-terms : goal.lead_of-requires-clause-terms
 lead_of-requires-clause-terms c = sym (c.as_slice.ensures.value ∙ sym (entries_same c.in_ok-terms.terms.items) ∙ c.in_ok-terms.ensures)

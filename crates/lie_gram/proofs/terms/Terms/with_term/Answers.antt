@@ -1,8 +1,9 @@
 use Rattle.std.specs.Prelude.{◌≡◌, Bool, true, false, Some, None, if◌then◌else◌, unsigned_abs, ◌+◌}
 use Rattle.std.proofs.Common.{◌∙◌, ap, subst, sym}
 use Rattle.lie_gram.specs.Sizes.{AreSizes}
-use Rattle.lie_gram.proofs.SizeSteps.{sizes_step, unsigned_abs-signed}
+use Rattle.lie_gram.proofs.SizeSteps.{sizes_step}
 use Rattle.lie_gram.proofs.terms.Terms.with_term.Goals as goal
+use Rattle.lie_ring.proofs.Ratios.{unsigned_abs-signed}
 
 some_is : {A : Type 0} (b : Bool) (x y : A) → Some x ≡ (if b then Some y else None) → x ≡ y
 some_is true x y e = cc

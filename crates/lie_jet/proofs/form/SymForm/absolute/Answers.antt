@@ -5,8 +5,8 @@ use Rattle.lie_math.specs.Polynomial.{WholePolynomial}
 use Rattle.lie_jet.specs.declared.derivative.Der.{Der}
 use Rattle.lie_jet.proofs.DerivativeLists.{take_map, length_map}
 use Rattle.lie_jet.proofs.FormParts.{kept_sizes, sizes_canonical, sizes_are}
-use Rattle.lie_poly.proofs.TimesSteps.{all_taken}
 use Rattle.lie_jet.proofs.form.SymForm.absolute.Goals as goal
+use Rattle.lie_ring.proofs.Fronts.{all_taken}
 
 pub loop-term-preserved : goal.loop-term-preserved
 loop-term-preserved c =

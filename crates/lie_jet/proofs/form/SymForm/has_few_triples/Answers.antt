@@ -9,8 +9,8 @@ use Rattle.lie_jet.specs.declared.derivative.Der.{Der}
 use Rattle.lie_jet.proofs.DerivativeLists.{length_map}
 use Rattle.lie_jet.proofs.FormParts.{count_step, within_step, few_are, many_are}
 use Rattle.std.proofs.lemmas.Bool.{leb-true, leb-false}
-use Rattle.lie_poly.proofs.TimesSteps.{all_taken}
 use Rattle.lie_jet.proofs.form.SymForm.has_few_triples.Goals as goal
+use Rattle.lie_ring.proofs.Fronts.{all_taken}
 
 pub loop-term-preserved : goal.loop-term-preserved
 loop-term-preserved c = record {
