@@ -117,9 +117,6 @@ no_blank_above c h =
     let tab : (c == 9) ≡ false = grind (arith, nat_tests, h) in
     rw (space, tab) refl
 
-pub no_letter_below : (c : ℕ) → c < 97 → is_in Letter c ≡ false
-no_letter_below c h = let low : nat_le 97 c ≡ false = grind (arith, nat_tests, h) in rw low refl
-
 pub no_digit_above : (c : ℕ) → 57 < c → is_in Digit c ≡ false
 no_digit_above c h = let high : nat_le c 57 ≡ false = grind (arith, nat_tests, h) in rw high (go (nat_le 48 c))
   where

@@ -5,8 +5,6 @@ use Rattle.std.proofs.Common.{sym, ap, ap₂, subst, ◌∙◌, arith, append_as
 use Rattle.std.proofs.lemmas.Bool.Decides.{nat_tests}
 use Rattle.std.proofs.lemmas.List.Elements.{All-from_recursion}
 use Rattle.std.proofs.lemmas.List.{append-nil, length-append, length-map}
-use Rattle.lie_math.specs.Monomial.{unit}
-use Rattle.lie_math.specs.Polynomial.{WholePolynomial}
 use Rattle.lie_geometry.specs.Coordinates.{Space, Coordinate}
 use Rattle.lie_jet.specs.Jets.{IsSmall}
 use Rattle.lie_gram.specs.CanonicalText.{names_line, polynomial_text, right_side, sides_text, equation_text, canonical_text}

@@ -1,12 +1,12 @@
 -- The lead of an equation's canonical text: its own, and without one the derivative that the polynomial is.
-use Rattle.std.specs.Prelude.{ℕ, zero, suc, ◌*◌, ◌+◌, ◌==◌, nat_lt, ◌≡◌, ◌≤◌, ◌<◌, Bool, true, false, cond, List, [], ◌∷◌, ◌++◌, length, codes, ℤ, pos, negsuc, unsigned_abs, Option, Some, None, if◌then◌else◌, refl}
+use Rattle.std.specs.Prelude.{ℕ, zero, suc, ◌*◌, ◌+◌, ◌==◌, nat_lt, ◌≡◌, ◌≤◌, ◌<◌, Bool, true, false, List, [], ◌∷◌, ◌++◌, length, ℤ, pos, negsuc, Option, Some, None, if◌then◌else◌, refl}
 use Rattle.std.specs.List.{AllByRecursion as Every}
-use Rattle.std.proofs.Common.{sym, ap, subst, ◌∙◌, arith, append_assoc}
+use Rattle.std.proofs.Common.{sym, ap, subst, ◌∙◌, arith}
 use Rattle.std.proofs.lemmas.Bool.Decides.{nat_tests}
 use Rattle.std.proofs.lemmas.List.{append-nil}
 use Rattle.lie_math.specs.FiniteSum as finite
 use Rattle.lie_math.specs.FiniteSumLaws.{list-of}
-use Rattle.lie_math.specs.Monomial.{Monomial, powers, unit, single}
+use Rattle.lie_math.specs.Monomial.{Monomial, powers, single}
 use Rattle.lie_math.specs.Polynomial.{WholePolynomial}
 use Rattle.lie_geometry.specs.Coordinates.{Space, Coordinate, IsCoordinate, coordinate, coordinates_up_to, number, order_of}
 use Rattle.lie_geometry.proofs.Numbers.{ways_none, coordinate-number}
@@ -16,8 +16,7 @@ use Rattle.lie_gram.specs.CanonicalText.{sides_text}
 use Rattle.lie_gram.specs.LeadsAlone.{derivative_alone, is_one, lead_alone}
 use Rattle.lie_gram.specs.Printing.{variable_text, sum_text}
 use Rattle.lie_gram.specs.RightSides.{plain_terms}
-use Rattle.lie_gram.specs.TokenGrammar.{IsSign, IsCoordinateAt}
-use Rattle.lie_gram.specs.SumGrammar.{IsLeadOf, HasLead, IsSum}
+use Rattle.lie_gram.specs.SumGrammar.{IsLeadOf, HasLead}
 use Rattle.lie_gram.proofs.FileCoordinates.{coordinate_good}
 use Rattle.lie_gram.proofs.LeadSides.{lead_left}
 use Rattle.lie_gram.proofs.PrintedCoordinates.{AreDistinct}

@@ -1,6 +1,5 @@
 -- The equation that the terms of a line make.
-use Rattle.std.specs.Prelude.{ℕ, ◌≡◌, List, [], ◌∷◌, ℤ, Ok, Option, refl}
-use Rattle.std.proofs.Common.{ap}
+use Rattle.std.specs.Prelude.{ℕ, ◌≡◌, List, ℤ, Ok, Option, refl}
 use Rattle.lie_math.specs.Monomial.{Monomial}
 use Rattle.lie_math.specs.Polynomial.{WholePolynomial, polynomial_of}
 use Rattle.lie_geometry.specs.Coordinates.{Space, Coordinate}

@@ -1,5 +1,5 @@
 -- No reader of a field text leaves more bytes than it was given, and a turn that goes on leaves less.
-use Rattle.std.specs.Prelude.{ℕ, zero, suc, ◌≡◌, ◌≤◌, ◌<◌, Bool, true, false, ◌==◌, List, [], ◌∷◌, length, drop, Option, Some, None, Ok, Err, if◌then◌else◌, refl}
+use Rattle.std.specs.Prelude.{ℕ, zero, suc, ◌≡◌, ◌≤◌, ◌<◌, Bool, true, false, ◌==◌, List, [], ◌∷◌, length, drop, Option, Some, None, Ok, Err, refl}
 use Rattle.std.specs.declared.result.Result.{Result}
 use Rattle.std.proofs.Common.{ap, subst, arith}
 use Rattle.lie_math.specs.Monomial.{Monomial, unit}

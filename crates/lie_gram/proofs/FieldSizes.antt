@@ -123,10 +123,6 @@ module _ (n : ℕ) (ts : List FieldTerm) (t : FieldTerm) where
       go true low e = made o new (grind (arith, nat_tests, low)) e put
       go false high e = none o new (grind (arith, nat_tests, high)) e put
 
--- no terms have no sums
-pub nothing_sized : (n : ℕ) (sizes : BTreeMap (Vec (ℕ × ℕ)) ℕ) → ((key : Vec (ℕ × ℕ)) → size_in sizes key ≡ 0) → IsSized n [] (Some sizes)
-nothing_sized n sizes none = (record { size = λ key s m at. none key }, λ s m. (let e : 0 < 2 ^ 127 = omega arith in e))
-
 size_over-append : (n s : ℕ) (m : Monomial) (ts us : List FieldTerm) → size_over n s m ts ≤ size_over n s m (ts ++ us)
 size_over-append n s m [] us = omega arith
 size_over-append n s m (t ∷ ts) us = let e = size_over-append n s m ts us in omega arith

@@ -1,15 +1,8 @@
 -- Steps of the readers of field texts, over plain numbers and lists.
-use Rattle.std.specs.Prelude.{ℕ, zero, suc, ◌+◌, ◌*◌, ◌/◌, ◌^◌, ◌≡◌, ◌≤◌, ◌<◌, ◌==◌, Bool, true, false, List, [], ◌∷◌, ◌++◌, length, take, drop, get_or, ℤ, pos, negsuc, ◌*ℤ◌, unsigned_abs, if◌then◌else◌, int_div, refl}
+use Rattle.std.specs.Prelude.{ℕ, zero, suc, ◌*◌, ◌/◌, ◌≡◌, ◌≤◌, ◌==◌, Bool, true, false, List, [], ◌∷◌, ◌++◌, length, drop, ℤ, pos, ◌*ℤ◌, if◌then◌else◌, refl}
 use Rattle.std.specs.Int.{◌∣◌}
-use Rattle.std.specs.List.{AllByRecursion as Every}
-use Rattle.std.proofs.Common.{sym, ap, ap₂, subst, ◌∙◌, arith, add-one}
-use Rattle.std.proofs.Math.Seq.{take-suc}
+use Rattle.std.proofs.Common.{sym, ap, ap₂, ◌∙◌, arith}
 use Rattle.std.proofs.Math.Nat.{eq-zero_of_zero-dvd, mul-div_cancel'}
-use Rattle.std.proofs.lemmas.Int.{unsigned_abs-mul}
-use Rattle.lie_math.specs.Limits.{FitsNumber}
-use borrow.Author.Differences.{ints}
-use Rattle.lie_systems.proofs.Divisibility.{number_back, quotient_turned, turned_divisor, quotient_back}
-use Rattle.lie_math.proofs.Integer.{int_div_exact, unsigned_abs_zero}
 use Rattle.lie_math.specs.Monomial.{Monomial, powers, unit}
 use Rattle.lie_math.specs.FiniteSumLaws.{plus_idl, of_list}
 use Rattle.lie_math.specs.Polynomial.{WholePolynomial, terms, polynomial_of, constant, ◌*ᴾ◌}
@@ -37,7 +30,7 @@ quotient_some g n h some = go (n / g) (mul-div_cancel' g h)
 
 -- ---- divisors of lists
 pub content_done : (number divisor i : ℕ) (items es : List (Monomial × ℤ)) → content_from number items ≡ content_from divisor (drop i items) → length items ≤ i → items ≡ es → divisor ≡ content_from number es
-content_done number divisor i items es same le is = sym (ap (content_from number) (sym is) ∙ same ∙ ap (content_from divisor) (drop_all items i le))
+content_done number divisor i items es same le is = sym (ap (content_from number) (sym is) ∙ same ∙ ap (content_from divisor) (drop_all i items le))
 
 pub times_entries_list : (g : ℕ) (es : List (Monomial × ℤ)) → times_list unit (pos g) es ≡ times_entries g es
 times_entries_list g [] = refl

@@ -1,5 +1,5 @@
 -- Field texts: each text has a field or a first fault, and one at most, by which the reader answers.
-use Rattle.std.specs.Prelude.{ℕ, ◌+◌, ◌≡◌, ◌≤◌, ◌<◌, ◌==◌, nat_lt, Bool, true, false, cond, List, [], ◌∷◌, length, if◌then◌else◌, Option, Some, None, Ok, Err, refl}
+use Rattle.std.specs.Prelude.{ℕ, ◌+◌, ◌≡◌, ◌≤◌, ◌<◌, nat_lt, Bool, true, false, cond, List, [], ◌∷◌, length, if◌then◌else◌, Option, Some, None, Ok, Err, refl}
 use Rattle.std.specs.declared.result.Result.{Result}
 use Rattle.std.specs.List.{AllByRecursion as Every}
 use Rattle.std.specs.Ordering.{eq_by_cmp, nat_cmp}
@@ -17,7 +17,7 @@ use Rattle.lie_gram.specs.declared.fault.ReadFail.TheVariants as reads
 use Rattle.lie_gram.specs.declared.stop.Stop.{Stop}
 use Rattle.lie_gram.specs.declared.field_term.FieldTerm.{FieldTerm}
 use Rattle.lie_gram.specs.Places.{bad}
-use Rattle.lie_gram.specs.Names.{place_from, place_of}
+use Rattle.lie_gram.specs.Names.{place_of}
 use Rattle.lie_gram.specs.Meaning.{product}
 use Rattle.lie_gram.specs.Reading.{ReadFails, Answers}
 use Rattle.lie_gram.specs.FieldMeaning.{AreWithinLimits, IsSumOfTerms}

@@ -1,12 +1,12 @@
 -- The monomials of a file's equations have coordinates of orders up to 6 and exponents up to 32.
-use Rattle.std.specs.Prelude.{◌≡◌, ℕ, ◌+◌, ◌<◌, ◌≤◌, Bool, true, false, cond, List, [], ◌∷◌, ◌++◌, length, ℤ, pos, ◌+ℤ◌}
+use Rattle.std.specs.Prelude.{◌≡◌, ℕ, ◌+◌, ◌<◌, Bool, true, false, cond, List, [], ◌∷◌, ◌++◌, length, ℤ, pos, ◌+ℤ◌}
 use Rattle.std.proofs.Common.{refl, sym, ap, subst, ◌∙◌, arith, inl, inr}
 use Rattle.std.specs.List.{AllByRecursion as Every}
 use Rattle.std.specs.Ordering.{eq_by_cmp, nat_cmp}
 use Rattle.lie_math.specs.FiniteSumLaws.{value-of, value-none}
 use Rattle.lie_math.specs.Integer.{coefficients}
 use Rattle.lie_math.specs.Monomial.{Monomial, monomial_cmp, exponent, unit, power_of, powers, ◌·◌}
-use Rattle.lie_math.specs.Polynomial.{WholePolynomial, terms, polynomial_of, coefficient}
+use Rattle.lie_math.specs.Polynomial.{WholePolynomial, terms, coefficient}
 use Rattle.lie_math.specs.SortedSum.{value_at}
 use Rattle.lie_math.proofs.FiniteSum.{key}
 use Rattle.lie_math.proofs.Monomial.{exponent-·, exponent-power_of}

@@ -1,5 +1,5 @@
 -- The bytes of a canonical text: a space to `~` without `#`, and line ends.
-use Rattle.std.specs.Prelude.{ℕ, zero, suc, ◌+◌, ◌^◌, ◌==◌, ◌≡◌, ◌≤◌, ◌<◌, nat_le, nat_lt, ltb, cond, Bool, true, false, not, ◌&&◌, ◌||◌, List, [], ◌∷◌, ◌++◌, length, map, take, drop, codes, decimal, ℤ, unsigned_abs, None, if◌then◌else◌, refl}
+use Rattle.std.specs.Prelude.{ℕ, zero, suc, ◌+◌, ◌^◌, ◌==◌, ◌≡◌, ◌≤◌, ◌<◌, nat_le, nat_lt, ltb, cond, Bool, true, false, not, ◌&&◌, List, [], ◌∷◌, ◌++◌, length, map, take, drop, decimal, ℤ, unsigned_abs, None, if◌then◌else◌, refl}
 use Rattle.std.specs.Int.{is_negative}
 use Rattle.std.specs.List.{flat_map, list_any, AllByRecursion as Every}
 use Rattle.std.proofs.Common.{sym, subst, arith, append_assoc}
@@ -7,9 +7,9 @@ use Rattle.std.proofs.lemmas.Bool.Decides.{nat_tests}
 use Rattle.std.proofs.lemmas.Fmt.{decimal_is_IsNumeral_wide}
 use Rattle.lie_math.specs.Monomial.{Monomial}
 use Rattle.lie_geometry.specs.Coordinates.{Space, Coordinate, independent, jet, coordinate, coordinates_up_to}
-use Rattle.lie_gram.specs.declared.runs.Class.TheVariants.{Blank, Letter, Digit, Content}
+use Rattle.lie_gram.specs.declared.runs.Class.TheVariants.{Blank, Digit, Content}
 use Rattle.lie_gram.specs.FileGrammar.{is_allowed, AreAllowed}
-use Rattle.lie_gram.specs.Printing.{name_at, repeated, letters_from, coordinate_text, variable_text, power_text, number_factor, term_text, star, sign_text, signed_text, sum_text}
+use Rattle.lie_gram.specs.Printing.{name_at, repeated, letters_from, coordinate_text, variable_text, power_text, number_factor, term_text, sign_text, signed_text, sum_text}
 use Rattle.lie_gram.specs.Printing.{behind as joined}
 use Rattle.lie_gram.specs.RightSides.{plain_terms}
 use Rattle.lie_gram.specs.Runs.{is_in, after_blanks}

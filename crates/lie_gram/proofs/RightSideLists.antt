@@ -13,7 +13,6 @@ use Rattle.lie_math.specs.Monomial.{Monomial, monomial_cmp, powers, unit}
 use Rattle.lie_math.specs.Polynomial.{WholePolynomial, terms, term, constant, coefficient, negᴾ, ◌+ᴾ◌, ◌*ᴾ◌}
 use Rattle.lie_math.proofs.FiniteSum.{entries_of}
 use Rattle.lie_math.proofs.TermWise.{times_list, polynomial_of-times, canonical_times}
-use Rattle.lie_ring.specs.Entries.{entries}
 use Rattle.lie_geometry.specs.Coordinates.{Space}
 use Rattle.lie_gram.specs.declared.printed_term.Term.{Term}
 use Rattle.lie_gram.specs.PrintedTerms.{printed, polynomial_terms}

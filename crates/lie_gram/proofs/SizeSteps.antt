@@ -1,5 +1,5 @@
 -- One more term in the map of sizes.
-use Rattle.std.specs.Prelude.{ℕ, zero, suc, ◌+◌, ◌≡◌, Bool, true, false, cond, List, [], ◌∷◌, ◌++◌, ℤ, unsigned_abs, if◌then◌else◌, refl}
+use Rattle.std.specs.Prelude.{ℕ, ◌+◌, ◌≡◌, Bool, true, false, cond, List, [], ◌∷◌, ◌++◌, ℤ, unsigned_abs, if◌then◌else◌, refl}
 use Rattle.std.specs.Global.{Vec}
 use Rattle.std.specs.BTreeMap.{BTreeMap}
 use Rattle.std.specs.Ordering.{nat_cmp, eq_by_cmp, is_eq}
@@ -13,7 +13,6 @@ use Rattle.std.proofs.lemmas.Cmp.{tied_itself}
 use Rattle.lie_math.proofs.FiniteSum.{key as same_key}
 use Rattle.lie_math.proofs.Monomial.{same_monomial}
 use Rattle.lie_math.specs.Polynomial.{terms}
-use Rattle.lie_ring.specs.Ratios.{signed}
 use Rattle.lie_gram.specs.Meaning.{size_of}
 use Rattle.lie_gram.specs.Sizes.{pairs_cmp, key_cmp, size_in, AreSizes}
 

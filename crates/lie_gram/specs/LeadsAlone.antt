@@ -1,9 +1,9 @@
 -- The system that its canonical text spells.
-use Rattle.std.specs.Prelude.{ℕ, List, [], ◌∷◌, map, ℤ, pos, negsuc, Bool, true, false, ◌+◌, ◌==◌, nat_lt, Some, None, if◌then◌else◌}
+use Rattle.std.specs.Prelude.{ℕ, List, [], ◌∷◌, map, ℤ, pos, negsuc, Bool, false, ◌+◌, ◌==◌, nat_lt, Some, None, if◌then◌else◌}
 use Rattle.std.specs.declared.option.Option.{Option}
 use Rattle.lie_math.specs.Monomial.{Monomial}
 use Rattle.lie_geometry.specs.Coordinates.{Space, Coordinate, coordinate}
-use Rattle.lie_gram.specs.Meaning.{EquationRead, SystemRead}
+use Rattle.lie_gram.specs.Meaning.{SystemRead}
 
 -- a derivative of order 1 or more, with the exponent 1 alone
 abbrev pub derivative_alone : Space → List (ℕ × ℕ) → Option Coordinate

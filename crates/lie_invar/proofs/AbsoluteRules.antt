@@ -56,9 +56,6 @@ factors_are (r ∷ rs) (s ∷ ss) h k = ((λ z. k.0 (unsigned_abs_zero r.c (ap u
 pub absolute_rules_ready : (S : Space) (rs ss : List LeadRule) → AreAbsoluteRules rs ss → CanReduce S rs → CanReduce S ss
 absolute_rules_ready S rs ss h k = record { jets = jets_are S rs ss h k.jets; factors = factors_are rs ss h k.factors }
 
-pub all_rules : (rs ss : List LeadRule) (i : ℕ) → AreAbsoluteRules (take i rs) ss → ¬ (i < length rs) → AreAbsoluteRules rs ss
-all_rules rs ss i h n = subst (λ xs. AreAbsoluteRules xs ss) (all_taken rs i (omega (arith, n))) h
-
 pub pushed : {X : Type 0} (new more old : List X) (b : Bool) → new ≡ (if b then more else old) → b ≡ true → new ≡ more
 pushed new more old b e h = e ∙ ap (λ t. if t then more else old) h
 

@@ -143,9 +143,6 @@ module _ (Fs : List LinearForm) (P : WholePolynomial) where
   pub forms_more : (G H : LinearForm) (k : ℕ) (F : LinearForm) → F ≡ slice_index_or Fs k no_form → G ≡ forms_over (numbers_below k) multiple → H ≡ G +ᶠ times_form (partial k P) F → H ≡ forms_over (numbers_below (k + 1)) multiple
   forms_more G H k F e g h = h ∙ ap₂ (λ K L. K +ᶠ times_form (partial k P) L) g e ∙ plus_comm forms _ _ ∙ ap (λ n. forms_over (numbers_below n) multiple) (let q : suc k ≡ k + 1 = omega arith in q)
 
-  pub forms_end : (G : LinearForm) (k : ℕ) → k ≤ length Fs → length Fs ≤ k → G ≡ forms_over (numbers_below k) multiple → G ≡ applied_forms Fs P
-  forms_end G k h i g = g ∙ ap (λ n. forms_over (numbers_below n) multiple) (let q : k ≡ length Fs = omega arith in q)
-
   pub forms_cause : (fail : PolyFail) (G : LinearForm) (k : ℕ) (F : LinearForm) → k < length Fs → F ≡ slice_index_or Fs k no_form → G ≡ forms_over (numbers_below k) multiple
       → IsCoefficientCause fail (each_coefficient absolute G +ᶠ times_form (partial k (absolute P)) (each_coefficient absolute F)) → IsCoefficientCause fail (applied_sizes Fs P)
   forms_cause fail G k F h e g cause =

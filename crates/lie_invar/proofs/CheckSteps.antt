@@ -119,10 +119,3 @@ module _ (S : Space) (V : ℕ → WholePolynomial) (rules : List LeadRule) where
           not_zero = some_of P q;
         }
     verdict_more n (No j Q) new P e p f h = subst (IsVerdictOf (i + 1)) (sym f) h
-
-  pub verdict_first : IsVerdictOf 0 Yes
-  verdict_first k d l = absurd (omega arith)
-
-  pub verdict_all : (i : ℕ) (v : Verdict) → length rules ≤ i → IsVerdictOf i v → IsVerdict S equations V v
-  verdict_all i Yes h g = λ k d l. g k d (let e = length-map rules (solved_equation S) in omega arith)
-  verdict_all i (No n P) h g = g

@@ -75,9 +75,6 @@ module _ (S : Space) (rules : List LeadRule) where
           ∙ sym (map_push (condition_of S equations) (solved_equations S (take i rules)) (solved_equation S (get_or rules i d)))
           ∙ ap (map (condition_of S equations)) (sym (map_push (solved_equation S) (take i rules) (get_or rules i d)) ∙ ap (solved_equations S) (sym (take_more rules i d h)))
 
-  pub made_all : (i : ℕ) (made : List LinearForm) → length rules ≤ i → AreMade i made → made ≡ conditions_of S equations
-  made_all i made h e = e ∙ ap (λ xs. map (condition_of S equations) (solved_equations S xs)) (all_taken rules i h)
-
   pub done_more : (i : ℕ) → AreDone i → ((d : LeadRule) → IsConditionWithin S equations (solved_equation S (get_or rules i d))) → AreDone (i + 1)
   done_more i h g k d l = by (ltb k i) refl
     where

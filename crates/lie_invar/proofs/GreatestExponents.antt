@@ -47,7 +47,3 @@ listed_absolutes w (t ∷ ts) = ap (max (exponent t.0 w)) (listed_absolutes w ts
 pub degree_absolute : (w : ℕ) (P : WholePolynomial) → degree_in w (absolute P) ≡ degree_in w P
 unfolding absolute
 degree_absolute w P = ap (greatest_listed w) (list-of terms (absolutes P.list) (canonical_absolutes P.list P.canonical)) ∙ listed_absolutes w P.list
-
-pub greatest_absolutes : (Ps : List WholePolynomial) (w : ℕ) → greatest_exponent (map absolute Ps) w ≡ greatest_exponent Ps w
-greatest_absolutes [] w = refl
-greatest_absolutes (P ∷ Ps) w = ap₂ max (degree_absolute w P) (greatest_absolutes Ps w)

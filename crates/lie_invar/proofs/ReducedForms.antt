@@ -124,9 +124,6 @@ coefficients_more ts k x made new p h is e put same =
     put ∙ ap₂ (λ xs q. xs ++ q ∷ []) e same ∙ sym (map_push (λ (t : Derivative × WholePolynomial). t.1) (take k (derivative_terms ts)) (derivative_of x.0, x.1))
     ∙ ap (map (λ (t : Derivative × WholePolynomial). t.1)) (sym (take_map (λ (t : Der × WholePolynomial). (derivative_of t.0, t.1)) ts k x h is))
 
-pub coefficients_all : (ts : List (Der × WholePolynomial)) (E : LinearForm) (k : ℕ) (made : List WholePolynomial) → derivative_terms ts ≡ E.list → length ts ≤ k → made ≡ map (λ t. t.1) (take k (derivative_terms ts)) → made ≡ map (λ t. t.1) E.list
-coefficients_all ts E k made all h e = e ∙ ap (map (λ (t : Derivative × WholePolynomial). t.1)) (all_taken (derivative_terms ts) k (subst (λ n. n ≤ k) (sym (length_map (λ (t : Der × WholePolynomial). (derivative_of t.0, t.1)) ts)) h) ∙ all)
-
 pub exponents_are : (S : Space) (rules : List LeadRule) (gs es : List ℕ) (Ps Qs : List WholePolynomial) (E : LinearForm) → es ≡ exponents_at S rules (greatest_exponent Qs) → Qs ≡ Ps → Ps ≡ map (λ t. t.1) E.list → gs ≡ es → gs ≡ exponents_at S rules (λ w. degree_in_form w E)
 exponents_are S rules gs es Ps Qs E e f h g = g ∙ e ∙ ap (λ xs. exponents_at S rules (greatest_exponent xs)) (f ∙ h) ∙ ap (exponents_at S rules) (form_exponents E)
 

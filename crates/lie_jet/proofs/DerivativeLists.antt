@@ -1,12 +1,12 @@
 -- Derivatives of unknowns as code, and lists of them with coefficients.
-use Rattle.std.specs.Prelude.{◌≡◌, ℕ, zero, suc, ◌+◌, ◌<◌, ◌≤◌, true, false, ℤ, List, [], ◌∷◌, ◌++◌, length, map, take, drop, slice_set, slice_index, OnOk, IfErr}
+use Rattle.std.specs.Prelude.{◌≡◌, ℕ, zero, suc, ◌+◌, ◌<◌, true, false, ℤ, List, [], ◌∷◌, ◌++◌, length, map, take, drop, slice_set, slice_index, OnOk, IfErr}
 use Rattle.std.specs.List.{AllByRecursion as Every}
-use Rattle.std.proofs.Common.{Result, Ok, Err, refl, sym, ap, ap₂, subst, ◌∙◌, arith, get_or, append_assoc, Ordering, Less, Equal, Greater}
+use Rattle.std.proofs.Common.{Result, Ok, Err, refl, sym, ap, ap₂, subst, ◌∙◌, arith, get_or, append_assoc, Equal, Greater}
 use Rattle.std.specs.Ordering.{nat_cmp, ordering_then}
 use Rattle.std.specs.Cmp.Lexicographic.{slice_cmp}
 use Rattle.std.specs.FinMap.Entries.{by_order}
 use Rattle.std.proofs.Math.ListN.{set}
-use Rattle.std.proofs.lemmas.List.{take_more, drop_more, drop_all}
+use Rattle.std.proofs.lemmas.List.{take_more, drop_more}
 use Rattle.lie_math.specs.Counts.{order, raise, trimmed, Derivative, derivative_cmp, raised}
 use Rattle.lie_math.specs.LinearForm.{forms, ◌+ᶠ◌, form_term}
 use Rattle.lie_math.specs.FiniteSum as finite
@@ -69,9 +69,6 @@ module _ {X Y : Type 0} (f : X → Y) where
   remove_map (y ∷ ys) zero = refl
   remove_map (y ∷ ys) (suc i) = ap (λ l. f y ∷ l) (remove_map ys i)
 
-  pub past_map : (xs : List X) (i : ℕ) → length xs ≤ i → drop i (map f xs) ≡ []
-  past_map xs i h = drop_all i (map f xs) (omega (arith, length_map xs))
-
 module _ {Y : Type 0} where
   pub after_cut : (ys fs : List Y) (i : ℕ) (e : Y) → drop i ys ≡ e ∷ fs → drop (suc i) ys ≡ fs
   after_cut [] fs zero e h = cc
@@ -115,20 +112,11 @@ goes_on d a es i e cut more r h =
 pub no_further : (d : Derivative) (es fs : List (Derivative × WholePolynomial)) (e : Derivative × WholePolynomial) → es ≡ e ∷ fs → ¬ (derivative_cmp d e.0 ≡ Greater) → GoesNoFurther d es
 no_further d es fs e h n = subst (GoesNoFurther d) (sym h) n
 
-pub none_further : (d : Derivative) (es : List (Derivative × WholePolynomial)) → es ≡ [] → GoesNoFurther d es
-none_further d es h = subst (GoesNoFurther d) (sym h) tt
-
-pub not_greater : (o r : Ordering) → o ≡ r → ¬ (r ≡ Greater) → ¬ (o ≡ Greater)
-not_greater o r e n q = n (sym e ∙ q)
-
 pub first_is : (d : Derivative) (es fs : List (Derivative × WholePolynomial)) (e : Derivative × WholePolynomial) → es ≡ e ∷ fs → derivative_cmp d e.0 ≡ Equal → IsFirst d es
 first_is d es fs e h q = subst (IsFirst d) (sym h) q
 
 pub not_first : (d : Derivative) (es fs : List (Derivative × WholePolynomial)) (e : Derivative × WholePolynomial) → es ≡ e ∷ fs → ¬ (derivative_cmp d e.0 ≡ Equal) → ¬ (IsFirst d es)
 not_first d es fs e h n q = n (subst (IsFirst d) h q)
-
-pub none_first : (d : Derivative) (es : List (Derivative × WholePolynomial)) → es ≡ [] → ¬ (IsFirst d es)
-none_first d es h q = subst (IsFirst d) h q
 
 -- ---- a put into a list in printed order
 pub added_at_first : (d : Derivative) (a : WholePolynomial) (es new : List (Derivative × WholePolynomial)) (i : ℕ) → GoesTo d a es i → IsFirst d (drop i es) → IsReplaced es i (λ b. b +ᴾ a) new → new ≡ add_at derivative_cmp forms.values d a es
@@ -141,18 +129,6 @@ added_at_first d a es new i to first replaced = go (drop i es) refl first ∙ sy
         ∙ ap (λ l. take i es ++ l) (ap₂ (λ k b. put_new derivative_cmp forms.values k b fs) (sym (derivative_same d e.0 h)) (plus_comm terms e.1 a)
         ∙ sym (ap (λ l. add_at derivative_cmp forms.values d a l) q
         ∙ ap (λ o. by_order o (put_new derivative_cmp forms.values d a (e ∷ fs)) (put_new derivative_cmp forms.values d (forms.values.adder.plus a e.1) fs) (e ∷ add_at derivative_cmp forms.values d a fs)) h))
-
-pub added_before : (d : Derivative) (a : WholePolynomial) (es new : List (Derivative × WholePolynomial)) (i : ℕ) → GoesTo d a es i → GoesNoFurther d (drop i es) → ¬ (IsFirst d (drop i es)) → new ≡ take i es ++ put_new derivative_cmp forms.values d a (drop i es) → new ≡ add_at derivative_cmp forms.values d a es
-added_before d a es new i to stop n h = h ∙ ap (λ l. take i es ++ l) (go (drop i es) stop n) ∙ sym to
-  where
-    by : (o : Ordering) (x y z : List (Derivative × WholePolynomial)) → ¬ (o ≡ Greater) → ¬ (o ≡ Equal) → x ≡ by_order o x y z
-    by Less x y z g k = refl
-    by Equal x y z g k = absurd (k refl)
-    by Greater x y z g k = absurd (g refl)
-
-    go : (ds : List (Derivative × WholePolynomial)) → GoesNoFurther d ds → ¬ (IsFirst d ds) → put_new derivative_cmp forms.values d a ds ≡ add_at derivative_cmp forms.values d a ds
-    go [] g k = refl
-    go (e ∷ fs) g k = by (derivative_cmp d e.0) _ _ _ g k
 
 every_cut : (P : Derivative × WholePolynomial → Type 0) (xs fs : List (Derivative × WholePolynomial)) (i : ℕ) (e : Derivative × WholePolynomial) → Every P xs → drop i xs ≡ e ∷ fs → P e
 every_cut P [] fs zero e h q = absurd (cc)

@@ -27,12 +27,6 @@ take_raised (suc p) (suc i) (x ∷ xs) h k = ap (λ l. x ∷ l) (take_raised p i
 pub drop_raised : (p i c : ℕ) (xs : List ℕ) → i < p → drop p (slice_set xs i c) ≡ drop p xs
 drop_raised p i c xs h = drop-set-lt p xs i c h
 
-pub index_low : (p i : ℕ) (xs : List ℕ) → i < p → slice_index xs i ≤ order (take p xs)
-index_low p i [] h = omega arith
-index_low zero i (x ∷ xs) h = absurd (omega arith)
-index_low (suc p) zero (x ∷ xs) h = omega arith
-index_low (suc p) (suc i) (x ∷ xs) h = omega (arith, index_low p i xs (omega arith))
-
 pub raised_jet : (S : Space) (j : Jet) (i : ℕ) → i < S.p → IsJet S 11 j →
     IsJet S 12 (record { dep = j.dep; counts = slice_set j.counts i (slice_index j.counts i + 1) }) × (coordinate_of S (record { dep = j.dep; counts = slice_set j.counts i (slice_index j.counts i + 1) }) ≡ jet j.dep (raise i (take S.p j.counts)))
 raised_jet S j i h is =

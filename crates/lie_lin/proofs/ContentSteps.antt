@@ -1,44 +1,21 @@
 -- The content and the common monomial of triples, from the last triple to the first.
-use Rattle.std.specs.Prelude.{◌≡◌, ℕ, zero, suc, ◌+◌, ◌<◌, ◌≤◌, ◌^◌, List, [], ◌∷◌, length, drop, get_or, ℤ, pos, negsuc, ◌*◌, ◌*ℤ◌, unsigned_abs, int_div}
-use Rattle.std.specs.Int.{◌∣◌, IsGcd}
-use Rattle.std.proofs.Common.{refl, sym, ap, ap₂, ◌∙◌, arith}
-use borrow.Author.Differences.{ints}
-use Rattle.std.proofs.lemmas.Int.{unsigned_abs-mul}
+use Rattle.std.specs.Prelude.{◌≡◌, ℕ, zero, suc, ◌<◌, ◌≤◌, ◌^◌, List, [], ◌∷◌, length, drop, get_or, ℤ}
+use Rattle.std.specs.Int.{IsGcd}
+use Rattle.std.proofs.Common.{sym, ap, arith}
 use Rattle.std.proofs.lemmas.Nat.Gcd.{same_from_IsGcd, dvd_refl, le_of_dvd}
 use Rattle.std.proofs.Math.Nat.{eq-zero_of_zero-dvd}
-use Rattle.lie_math.specs.Limits.{FitsNumber}
-use Rattle.lie_math.proofs.Integer.{int_div_exact, unsigned_abs_zero}
-use Rattle.lie_systems.proofs.Divisibility.{number_back, quotient_turned, turned_divisor, quotient_back}
+
 use Rattle.lie_math.specs.Monomial.{Monomial}
 use Rattle.lie_jet.specs.declared.derivative.Der.{Der}
-use Rattle.lie_systems.specs.Normalised.{common_divisor, content, common_monomial, common_factor}
+use Rattle.lie_systems.specs.Normalised.{common_divisor, common_monomial, common_factor}
 use Rattle.lie_systems.proofs.Divisors.{common_divisor_is}
 use Rattle.lie_lin.specs.Forms.{triples_of}
-
--- one triple more in front
-pub content_step : (list : List (Der × Monomial × ℤ)) (i : ℕ) (t : Der × Monomial × ℤ) → i < length list → t ≡ get_or list i t → content (triples_of (drop i list)) ≡ common_divisor (unsigned_abs t.2) (content (triples_of (drop (suc i) list)))
-content_step [] i t lt is = absurd (omega arith)
-content_step (x ∷ list) zero t lt is = ap (λ (y : Der × Monomial × ℤ). common_divisor (unsigned_abs y.2) (content (triples_of list))) (sym is)
-content_step (x ∷ list) (suc i) t lt is = content_step list i t (omega arith) is
 
 pub common_step : (list : List (Der × Monomial × ℤ)) (i : ℕ) (t : Der × Monomial × ℤ) → suc i < length list → t ≡ get_or list i t → common_monomial (triples_of (drop i list)) ≡ common_factor t.1 (common_monomial (triples_of (drop (suc i) list)))
 common_step [] i t lt is = absurd (omega arith)
 common_step (x ∷ []) i t lt is = absurd (omega arith)
 common_step (x ∷ y ∷ list) zero t lt is = ap (λ (z : Der × Monomial × ℤ). common_factor z.1 (common_monomial (triples_of (y ∷ list)))) (sym is)
 common_step (x ∷ y ∷ list) (suc i) t lt is = common_step (y ∷ list) i t (omega arith) is
-
-pub common_last : (list : List (Der × Monomial × ℤ)) (i : ℕ) (t : Der × Monomial × ℤ) → suc i ≡ length list → t ≡ get_or list i t → common_monomial (triples_of (drop i list)) ≡ t.1
-common_last [] i t e is = absurd (omega arith)
-common_last (x ∷ []) zero t e is = ap (λ (y : Der × Monomial × ℤ). y.1) (sym is)
-common_last (x ∷ []) (suc i) t e is = absurd (omega arith)
-common_last (x ∷ y ∷ list) zero t e is = absurd (omega arith)
-common_last (x ∷ y ∷ list) (suc i) t e is = common_last (y ∷ list) i t (omega arith) is
-
-pub content_none : (list : List (Der × Monomial × ℤ)) (i : ℕ) → i ≡ length list → content (triples_of (drop i list)) ≡ 0
-content_none [] zero e = refl
-content_none [] (suc i) e = absurd (omega arith)
-content_none (x ∷ list) zero e = absurd (omega arith)
-content_none (x ∷ list) (suc i) e = content_none list i (omega arith)
 
 pub divisor_is : (a b g : ℕ) → IsGcd a b g → g ≡ common_divisor a b
 divisor_is a b g h = same_from_IsGcd a b g (common_divisor a b) h (common_divisor_is a b)

@@ -1,10 +1,8 @@
 -- Forms divided by a term that divides them: multiplied by it they are back, so they are the normalised equation.
-use Rattle.std.specs.Prelude.{false, ◌≡◌, ℕ, zero, suc, ◌+◌, ◌*◌, ◌<◌, ◌≤◌, not, T, List, [], ◌∷◌, ◌++◌, length, take, get_or, ℤ, pos, ◌*ℤ◌, unsigned_abs, Ok, Err, IfOk, OnOk}
+use Rattle.std.specs.Prelude.{false, ◌≡◌, ℕ, zero, suc, ◌+◌, ◌<◌, not, T, List, [], ◌∷◌, ◌++◌, length, take, get_or, ℤ, pos, ◌*ℤ◌, unsigned_abs, Ok, Err, IfOk, OnOk}
 use Rattle.std.specs.Int.{◌∣◌}
 use Rattle.std.specs.List.{AllByRecursion as Every}
-use Rattle.std.proofs.Common.{refl, sym, ap, ap₂, subst, ◌∙◌, arith, add-one, is_lt, true≢false}
-use Rattle.std.proofs.Math.Seq.{take-suc}
-use Rattle.std.proofs.lemmas.Int.{unsigned_abs-mul}
+use Rattle.std.proofs.Common.{refl, sym, ap, ap₂, subst, ◌∙◌, arith, is_lt, true≢false}
 use Rattle.std.proofs.lemmas.Nat.Gcd.{dvd_refl}
 use Rattle.lie_math.specs.SortedSum.{below_all}
 use Rattle.lie_math.specs.Canonical.{both, first, second}
@@ -24,8 +22,8 @@ use Rattle.lie_jet.specs.declared.derivative.Der.{Der}
 use Rattle.lie_jet.specs.Derivatives.{derivative_of}
 use Rattle.lie_systems.specs.Triples.{Triple, triples, triples_in, triples_with}
 use Rattle.lie_systems.specs.Laws.{DividesMonomial, DividesMonomials, DividesNumbers}
-use Rattle.lie_systems.specs.Normalised.{content, common_monomial, first_sign, without_factor, primitive, primitive_of, derivative_alone}
-use Rattle.lie_systems.proofs.Divisibility.{all_divided, all_common, size-sign}
+use Rattle.lie_systems.specs.Normalised.{content, common_monomial, without_factor, primitive, primitive_of, derivative_alone}
+use Rattle.lie_systems.proofs.Divisibility.{all_divided, all_common}
 use Rattle.lie_systems.proofs.Exponents.{factor_back}
 use Rattle.lie_systems.proofs.Normalised.{first_of, signed_content, signed_content_apart, primitive_part, times-primitive_part, size-signed_content}
 use Rattle.lie_systems.proofs.Triples.{each_times, list-times_form, sum_of_triples-triples}

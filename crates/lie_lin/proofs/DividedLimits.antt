@@ -23,9 +23,7 @@ use Rattle.lie_math.proofs.PrintOrder.{monomial_cmp-·}
 use Rattle.lie_math.proofs.TermWise.{times_list, length-times}
 use Rattle.lie_ring.specs.Causes.{IsCause}
 use Rattle.lie_ring.specs.Entries.{entries}
-use Rattle.lie_ring.specs.declared.failures.PastKind.TheVariants.{Coefficient, Exponent, Terms, Order, Unknowns, Width}
 use Rattle.lie_ring.specs.declared.failures.PolyFail.{PolyFail}
-use Rattle.lie_ring.specs.declared.failures.PolyFail.TheVariants.{Past, NoMemory}
 use Rattle.lie_poly.specs.Failures.{IsStarved}
 use Rattle.lie_jet.proofs.Absolutes.{within_starved}
 use Rattle.lie_jet.proofs.TotalParts.{entries_same}

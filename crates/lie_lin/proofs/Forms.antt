@@ -11,7 +11,6 @@ use Rattle.lie_math.specs.LinearForm.{forms, LinearForm, no_form}
 use Rattle.lie_systems.specs.Triples.{Triple, triples_in, triples_with}
 use Rattle.lie_systems.specs.Leads.{IsLead}
 use Rattle.lie_systems.proofs.Leads.{first_is_lead}
-use Rattle.lie_ring.specs.Entries.{entries}
 use Rattle.lie_jet.specs.declared.derivative.Der.{Der}
 use Rattle.lie_lin.specs.Forms.{coefficients_of, AreCoefficients, triples_of}
 use Rattle.lie_jet.specs.Derivatives.{derivative_of}
@@ -20,10 +19,6 @@ use Rattle.lie_jet.proofs.FormParts.{triples_in-append}
 pub triples_of-append : (xs ys : List (Der × Monomial × ℤ)) → triples_of (xs ++ ys) ≡ triples_of xs ++ triples_of ys
 triples_of-append [] ys = refl
 triples_of-append (x ∷ xs) ys = ap (λ ts. (derivative_of x.0, x.1, x.2) ∷ ts) (triples_of-append xs ys)
-
-pub triples_with-append : (d : Derivative) (es fs : List (Monomial × ℤ)) → triples_with d (es ++ fs) ≡ triples_with d es ++ triples_with d fs
-triples_with-append d [] fs = refl
-triples_with-append d (e ∷ es) fs = ap (λ ts. (d, e.0, e.1) ∷ ts) (triples_with-append d es fs)
 
 pub coefficients_of-append : (xs ys : List (Der × WholePolynomial)) → coefficients_of (xs ++ ys) ≡ coefficients_of xs ++ coefficients_of ys
 coefficients_of-append [] ys = refl

@@ -1,12 +1,12 @@
 -- The laws of counts: one more derivative, zeros at the end, and the order of derivatives.
 use Rattle.std.specs.Fn.{iterate}
-use Rattle.std.specs.Prelude.{◌≡◌, ℕ, zero, suc, ◌+◌, ◌<◌, Bool, true, false, cond, eqb, List, [], ◌∷◌, ◌++◌, length, replicate}
-use Rattle.std.proofs.Common.{refl, sym, ap, ap₂, ◌∙◌, arith, Ordering, Less, Equal, Greater, eqb-true}
+use Rattle.std.specs.Prelude.{◌≡◌, ℕ, zero, suc, ◌+◌, Bool, true, false, cond, eqb, List, [], ◌∷◌, length}
+use Rattle.std.proofs.Common.{refl, sym, ap, ap₂, ◌∙◌, arith, Less, Greater, eqb-true}
 use Rattle.std.proofs.Math.Dec.{eqb-suc-zero}
-use Rattle.std.specs.Cmp.{nat_cmp_is, ranks, tied_itself}
-use Rattle.std.specs.Ordering.{nat_cmp, ordering_then, MatchOrdering}
-use Rattle.std.specs.Cmp.Lexicographic.{slice_cmp, nat_list_cmp_total}
-use Rattle.lie_math.specs.Counts.{order, raise, before_counts, trimmed, partials_from, partials, Derivative, derivative_cmp, raised}
+use Rattle.std.specs.Cmp.{nat_cmp_is}
+use Rattle.std.specs.Ordering.{nat_cmp, ordering_then}
+use Rattle.std.specs.Cmp.Lexicographic.{slice_cmp}
+use Rattle.lie_math.specs.Counts.{order, raise, before_counts, trimmed, partials_from, partials}
 use Rattle.lie_math.specs.PartialDerivative.{partial}
 use Rattle.lie_math.specs.Polynomial.{WholePolynomial}
 use Rattle.lie_math.proofs.PartialDerivative.{partial_commutes}
@@ -80,22 +80,6 @@ pub order_trimmed : (J : List ℕ) → order (trimmed J) ≡ order J
 order_trimmed [] = refl
 order_trimmed (c ∷ J) = order_before c (trimmed J) ∙ ap (λ n. c + n) (order_trimmed J)
 
-partials_before : (i c : ℕ) (J : List ℕ) (p : WholePolynomial) → partials_from i (before_counts c J) p ≡ partial_times c i (partials_from (suc i) J p)
-partials_before i c [] p = go (eqb c 0) refl
-  where
-    go : (t : Bool) → eqb c 0 ≡ t → partials_from i (cond t [] (c ∷ [])) p ≡ partial_times c i p
-    go true e = ap (λ n. partial_times n i p) (sym (eqb-true c 0 e))
-    go false e = refl
-partials_before i c (d ∷ J) p = refl
-
-partials_trimmed_from : (i : ℕ) (J : List ℕ) (p : WholePolynomial) → partials_from i (trimmed J) p ≡ partials_from i J p
-partials_trimmed_from i [] p = refl
-partials_trimmed_from i (c ∷ J) p = partials_before i c (trimmed J) p ∙ ap (partial_times c i) (partials_trimmed_from (suc i) J p)
-
--- counts past the end are 0
-pub partials_trimmed : (J : List ℕ) (p : WholePolynomial) → partials (trimmed J) p ≡ partials J p
-partials_trimmed J p = partials_trimmed_from 0 J p
-
 before_raise : (i c : ℕ) (J : List ℕ) → before_counts c (raise i J) ≡ raise (suc i) (before_counts c J)
 before_raise zero c [] = go (eqb c 0) refl
   where
@@ -155,69 +139,3 @@ trimmed_cmp [] [] e = refl
 trimmed_cmp [] (k ∷ K) e = absurd (omega arith)
 trimmed_cmp (j ∷ J) [] e = absurd (omega arith)
 trimmed_cmp (j ∷ J) (k ∷ K) e = cmp_before j k (trimmed J) (trimmed K) ∙ ap (ordering_then (nat_cmp j k)) (trimmed_cmp J K (omega arith))
-
-nat_cmp_suc : (c d : ℕ) → nat_cmp (suc c) (suc d) ≡ nat_cmp c d
-nat_cmp_suc c d = sym (nat_cmp_is (suc c) (suc d) (nat_cmp c d) (next (nat_cmp c d) (ranks c d)))
-  where
-    next : (r : Ordering) → MatchOrdering r (c < d) (c ≡ d) (d < c) → MatchOrdering r (suc c < suc d) (suc c ≡ suc d) (suc d < suc c)
-    next Less h = omega arith
-    next Equal h = ap suc h
-    next Greater h = omega arith
-
-length_raise : (i : ℕ) (J K : List ℕ) → length J ≡ length K → length (raise i J) ≡ length (raise i K)
-length_raise zero [] [] e = refl
-length_raise (suc i) [] [] e = refl
-length_raise i [] (k ∷ K) e = absurd (omega arith)
-length_raise i (j ∷ J) [] e = absurd (omega arith)
-length_raise zero (j ∷ J) (k ∷ K) e = e
-length_raise (suc i) (j ∷ J) (k ∷ K) e = ap suc (length_raise i J K (omega arith))
-
-raise_cmp : (i : ℕ) (J K : List ℕ) → length J ≡ length K → slice_cmp nat_cmp (raise i J) (raise i K) ≡ slice_cmp nat_cmp J K
-raise_cmp i [] [] e = tied_itself nat_list_cmp_total (raise i [])
-raise_cmp i [] (k ∷ K) e = absurd (omega arith)
-raise_cmp i (j ∷ J) [] e = absurd (omega arith)
-raise_cmp zero (j ∷ J) (k ∷ K) e = ap (λ r. ordering_then r (slice_cmp nat_cmp J K)) (nat_cmp_suc j k)
-raise_cmp (suc i) (j ∷ J) (k ∷ K) e = ap (ordering_then (nat_cmp j k)) (raise_cmp i J K (omega arith))
-
-padded : List ℕ → ℕ → List ℕ
-padded J n = J ++ replicate n 0
-
-trimmed_padded : (J : List ℕ) (n : ℕ) → trimmed (padded J n) ≡ trimmed J
-unfolding padded
-trimmed_padded [] zero = refl
-trimmed_padded [] (suc n) = ap (before_counts 0) (trimmed_padded [] n)
-trimmed_padded (c ∷ J) n = ap (before_counts c) (trimmed_padded J n)
-
-length_padded : (J : List ℕ) (n : ℕ) → length (padded J n) ≡ length J + n
-unfolding padded
-length_padded [] zero = refl
-length_padded [] (suc n) = ap suc (length_padded [] n) ∙ moved n
-  where
-    moved : (n : ℕ) → suc (0 + n) ≡ 0 + suc n
-    moved n = omega arith
-length_padded (c ∷ J) n = ap suc (length_padded J n) ∙ moved (length J) n
-  where
-    moved : (l n : ℕ) → suc (l + n) ≡ suc l + n
-    moved l n = omega arith
-
--- one more derivative keeps the order of counts without zeros at the end
-pub raise_cmp_trimmed : (i : ℕ) (J K : List ℕ) → trimmed J ≡ J → trimmed K ≡ K → slice_cmp nat_cmp (raise i J) (raise i K) ≡ slice_cmp nat_cmp J K
-raise_cmp_trimmed i J K j k =
-    sym (ap₂ (slice_cmp nat_cmp) (at J (length K) j) (at K (length J) k)) ∙ trimmed_cmp (raise i (padded J (length K))) (raise i (padded K (length J))) (length_raise i _ _ same)
-    ∙ raise_cmp i (padded J (length K)) (padded K (length J)) same ∙ sym (trimmed_cmp (padded J (length K)) (padded K (length J)) same)
-    ∙ ap₂ (slice_cmp nat_cmp) (trimmed_padded J (length K) ∙ j) (trimmed_padded K (length J) ∙ k)
-  where
-    at : (J : List ℕ) (n : ℕ) → trimmed J ≡ J → trimmed (raise i (padded J n)) ≡ raise i J
-    at J n j = trimmed_raise i (padded J n) ∙ ap (raise i) (trimmed_padded J n ∙ j)
-
-    swapped : (a b : ℕ) → a + b ≡ b + a
-    swapped a b = omega arith
-
-    same : length (padded J (length K)) ≡ length (padded K (length J))
-    same = length_padded J (length K) ∙ swapped (length J) (length K) ∙ sym (length_padded K (length J))
-
--- and so the order of derivatives
-pub raised_cmp : (i : ℕ) (x y : Derivative) → trimmed x.counts ≡ x.counts → trimmed y.counts ≡ y.counts → derivative_cmp (raised i x) (raised i y) ≡ derivative_cmp x y
-raised_cmp i x y h k =
-    ap₂ ordering_then (ap₂ nat_cmp (order_raise i y.counts) (order_raise i x.counts) ∙ nat_cmp_suc (order y.counts) (order x.counts))
-    (ap (ordering_then (nat_cmp y.unknown x.unknown)) (raise_cmp_trimmed i y.counts x.counts k h))

@@ -6,16 +6,13 @@ use lib.IntN.{*ℤ_comm, zero-*ℤ, *ℤ-zero}
 use Rattle.std.specs.Ordering.{eq_by_cmp}
 use Rattle.lie_math.specs.SortedSum.{sum_of_entries}
 use Rattle.lie_math.specs.Canonical.{sum_of_entries-map}
-use Rattle.lie_math.specs.FiniteSumLaws.{value-plus, value-term, value-none, ext, plus_idl}
+use Rattle.lie_math.specs.FiniteSumLaws.{value-plus, value-term, value-none, ext}
 use Rattle.lie_math.proofs.FiniteSum.{key}
 use Rattle.lie_math.specs.Monomial.{Monomial, ◌·◌, exponent, monomial_cmp, single}
 use Rattle.lie_math.proofs.Monomial.{exponent_raised, lower_raised, raised_lower, same_monomial}
-use Rattle.lie_math.specs.Polynomial.{WholePolynomial, polynomials, terms, term, coefficient, 0ᴾ, ◌*ᴾ◌, ◌+ᴾ◌}
+use Rattle.lie_math.specs.Polynomial.{WholePolynomial, polynomials, terms, term, coefficient, 0ᴾ}
 use Rattle.lie_math.specs.Integer.{integers, is_zero_int, int_nil, *ℤ-distr}
-use Rattle.lie_math.specs.PolynomialRing.{polynomial_ring}
-use Rattle.lie_math.proofs.Ring.{times_nil, nil_times}
 use Rattle.lie_math.specs.PartialDerivative.{partial, lower}
-use Rattle.lie_math.proofs.PartialDerivative.{partial-*ᴾ, partial-+ᴾ, partial-0ᴾ, partial_commutes}
 use Rattle.lie_math.proofs.Integer.{no_zero_divisors_ℤ}
 use Rattle.lie_math.specs.Variables.{FreeOf}
 
@@ -64,11 +61,3 @@ free_of_partial v p e m h = go (exponent m v) refl
         *ℤ_comm _ (coefficient p m) ∙ ap (λ k. coefficient p k *ℤ pos (suc (exponent (lower v m) v))) (sym (raised_lower v x m f)) ∙ sym (coefficient-partial v p (lower v m)) ∙ ap (λ q. coefficient q (lower v m)) e ∙ value-none terms (lower v m))))
 
 -- ---- what is free of v is closed
-pub free-+ᴾ : (v : ℕ) (p q : WholePolynomial) → partial v p ≡ 0ᴾ → partial v q ≡ 0ᴾ → partial v (p +ᴾ q) ≡ 0ᴾ
-free-+ᴾ v p q h k = partial-+ᴾ v p q ∙ ap₂ ◌+ᴾ◌ h k ∙ plus_idl terms 0ᴾ
-
-pub free-*ᴾ : (v : ℕ) (p q : WholePolynomial) → partial v p ≡ 0ᴾ → partial v q ≡ 0ᴾ → partial v (p *ᴾ q) ≡ 0ᴾ
-free-*ᴾ v p q h k = partial-*ᴾ v p q ∙ ap₂ ◌+ᴾ◌ (ap (λ x. x *ᴾ q) h ∙ nil_times polynomial_ring q) (ap (λ x. p *ᴾ x) k ∙ times_nil polynomial_ring p) ∙ plus_idl terms 0ᴾ
-
-pub free-partial : (v w : ℕ) (p : WholePolynomial) → partial v p ≡ 0ᴾ → partial v (partial w p) ≡ 0ᴾ
-free-partial v w p h = partial_commutes v w p ∙ ap (partial w) h ∙ partial-0ᴾ w

@@ -41,9 +41,6 @@ int_div_exact (pos n) g h = ap pos (mul_comm g (n / g) ∙ div-mul_cancel g h)
 int_div_exact (negsuc n) g h =
     *ℤ_comm (pos g) (neg_ℤ (pos (suc n / g))) ∙ neg-*ℤ (pos (suc n / g)) (pos g) ∙ ap (λ m. neg_ℤ (pos m)) (div-mul_cancel g h)
 
-pub pos_times : (m n : ℕ) → pos (m * n) ≡ pos m *ℤ pos n
-pos_times m n = refl
-
 pub not_zero : (n : ℕ) → 0 < n → ¬ (pos n ≡ pos 0)
 not_zero n h e = let k : n ≡ 0 = ap unsigned_abs e in omega arith
 

@@ -1,5 +1,5 @@
 -- Polynomials that cover others: no coefficient of the other is greater in absolute value. What another covers is within the limits where that is.
-use Rattle.std.specs.Prelude.{◌≡◌, ℕ, suc, ◌+◌, ◌<◌, ◌≤◌, ◌^◌, Bool, true, false, cond, not, T, List, [], ◌∷◌, ◌++◌, length, ℤ, pos, negsuc, ◌+ℤ◌, unsigned_abs}
+use Rattle.std.specs.Prelude.{◌≡◌, ℕ, suc, ◌+◌, ◌≤◌, Bool, true, false, cond, not, T, List, [], ◌∷◌, ◌++◌, length, ℤ, pos, negsuc, ◌+ℤ◌, unsigned_abs}
 use Rattle.std.proofs.Common.{refl, sym, ap, subst, ◌∙◌, arith, Ordering, Less, Equal, Greater, is_lt, is_eq, eqb, eqb→eq}
 use Rattle.std.specs.Ordering.{eq_by_cmp, ordering_reverse}
 use Rattle.std.specs.Cmp.{tied_itself}
@@ -16,7 +16,7 @@ use Rattle.lie_math.specs.Monomial.{Monomial, monomial_cmp, unit}
 use Rattle.lie_math.specs.MonomialOrder.{monomial_cmp_total}
 use Rattle.lie_math.specs.Polynomial.{WholePolynomial, coefficient, terms, term, constant, polynomial_of, 0ᴾ, ◌+ᴾ◌}
 use Rattle.lie_math.specs.Integer.{coefficients, is_zero_int}
-use Rattle.lie_math.specs.Limits.{IsWithinLimits, absolutes, absolute}
+use Rattle.lie_math.specs.Limits.{absolutes, absolute}
 use Rattle.lie_math.proofs.CanonicalLists.{canonical_value, canonical_below, canonical_tail, canonical_cons}
 
 -- the coefficient of a list of terms
@@ -97,13 +97,6 @@ zero_covered a b h e = unsigned_abs_zero a (let z : unsigned_abs b ≡ 0 = ap un
 
 pub length_covered : (p b : WholePolynomial) → IsCovered p b → length p.list ≤ length b.list
 length_covered p b c = shorter terms p.list b.list p.canonical b.canonical (λ m e. zero_covered (coefficient p m) (coefficient b m) (c.at_most m) e)
-
-pub within_covered : (p b : WholePolynomial) → IsCovered p b → IsWithinLimits b → IsWithinLimits p
-within_covered p b c w = record {
-  coefficients = λ m. let h : unsigned_abs (coefficient p m) ≤ unsigned_abs (coefficient b m) = c.at_most m in let k : unsigned_abs (coefficient b m) < 2 ^ 127 = w.coefficients m in omega arith;
-  exponents = λ m o. w.exponents m (λ e. o (zero_covered (coefficient p m) (coefficient b m) (c.at_most m) e));
-  terms = let h : length p.list ≤ length b.list = length_covered p b c in let k : length b.list ≤ 1000000 = w.terms in omega arith;
-}
 
 pub covered_trans : (p q r : WholePolynomial) → IsCovered p q → IsCovered q r → IsCovered p r
 covered_trans p q r c d = record { at_most = λ m. let h : unsigned_abs (coefficient p m) ≤ unsigned_abs (coefficient q m) = c.at_most m in let k : unsigned_abs (coefficient q m) ≤ unsigned_abs (coefficient r m) = d.at_most m in omega arith }

@@ -7,15 +7,8 @@ use Rattle.lie_math.specs.PolynomialRing.{polynomial_code}
 use Rattle.lie_math.specs.DerivativeOrder.{derivative_code}
 use Rattle.lie_math.specs.FiniteSumLaws as finite_laws
 use Rattle.lie_math.specs.LinearForm.{LinearForm, forms}
-use Rattle.lie_math.specs.RationalPolynomial.{RationalPolynomial}
 use Rattle.lie_math.specs.VectorField.{VectorField}
 use Rattle.lie_math.specs.LinearSystem.{Unknown, LinearSystem}
-
-pub same_rational_polynomial : (x y : RationalPolynomial) → ◌≡◌ {A = ℕ × WholePolynomial} (x.over, x.whole) (y.over, y.whole) → x ≡ y
-same_rational_polynomial x y e = λ i. record { over = (e i).0; whole = (e i).1 }
-
-abbrev pub rational_polynomial_code : Coded RationalPolynomial
-rational_polynomial_code = coded_via (coded× coded_ℕ polynomial_code) (λ x. (x.over, x.whole)) same_rational_polynomial
 
 pub same_vector_field : (x y : VectorField) → ◌≡◌ {A = ℕ × List WholePolynomial} (x.denominator, x.parts) (y.denominator, y.parts) → x ≡ y
 same_vector_field x y e = λ i. record { denominator = (e i).0; parts = (e i).1 }

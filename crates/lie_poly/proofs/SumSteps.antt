@@ -1,12 +1,12 @@
 -- How a sum of terms is told by tallies.
-use Rattle.std.proofs.Common.{◌≡◌, ℕ, ◌-◌, ◌<◌, ◌≤◌, ◌^◌, List, [], ◌∷◌, ◌++◌, length, take, drop, get_or, reverse, refl, sym, ap, ap₂, ◌∙◌, subst, subst₂, arith, ℤ, pos}
+use Rattle.std.proofs.Common.{◌≡◌, ℕ, ◌-◌, List, [], ◌∷◌, ◌++◌, length, take, drop, get_or, reverse, refl, sym, ap, ap₂, ◌∙◌, subst, subst₂, arith, ℤ, pos}
 use Rattle.std.proofs.lemmas.Grind.{common_steps}
 use Rattle.std.specs.Prelude.{unsigned_abs}
 use Rattle.lie_math.specs.Monomial.{Monomial}
 use Rattle.lie_math.specs.Polynomial.{WholePolynomial, polynomial_of, terms, ◌+ᴾ◌}
-use Rattle.lie_math.specs.Limits.{FitsNumber, HasLowExponents, absolutes}
+use Rattle.lie_math.specs.Limits.{absolutes}
 use Rattle.lie_math.proofs.Integer.{unsigned_abs_zero}
-use Rattle.lie_math.proofs.CanonicalLists.{of-append, canonical_cons}
+use Rattle.lie_math.proofs.CanonicalLists.{of-append}
 use Rattle.lie_math.proofs.Limits.{IsCovered, covered_first, covered_second, nonneg_absolutes, absolutes-append}
 use Rattle.lie_ring.proofs.Limits.{wide_covered, high_covered, many_covered}
 use Rattle.lie_ring.specs.declared.failures.PastKind.TheVariants.{Coefficient, Exponent, Terms, Order, Unknowns, Width}
@@ -18,7 +18,6 @@ use Rattle.lie_poly.specs.declared.tally.Tally.{Tally}
 use Rattle.lie_poly.specs.Tallies.{sum_of, bulk_of, Tells}
 use Rattle.lie_poly.proofs.TermLists.{entries-append}
 use Rattle.lie_poly.proofs.TallyLists.{zeros_sum}
-use Rattle.lie_math.proofs.TermWise.{not_zero_test}
 use Rattle.std.proofs.lemmas.List.{take_rest}
 
 -- what is past in a part is past in the whole
@@ -53,18 +52,6 @@ module _ {C : Type 0} (value : C → ℤ) where
       let none : polynomial_of [] ≡ polynomial_of ((m, pos 0) ∷ []) = zeros_sum ((m, pos 0) ∷ []) in
       tells_same [] (polynomial_of []) (polynomial_of ((m, z) ∷ [])) (polynomial_of []) (polynomial_of ((m, pos (unsigned_abs z)) ∷ []))
       (none ∙ ap (λ y. polynomial_of ((m, y) ∷ [])) (sym zero)) (none ∙ ap (λ n. polynomial_of ((m, pos n) ∷ [])) (sym e)) tells_none
-
-  pub tells_one : (t : Tally C) (m : Monomial) (z : ℤ) → t.mono ≡ m → value t.sum ≡ z → t.size ≡ unsigned_abs z → FitsNumber z → ¬ (unsigned_abs z ≡ 0) → HasLowExponents m → Tells value (t ∷ []) (polynomial_of ((m, z) ∷ [])) (polynomial_of ((m, pos (unsigned_abs z)) ∷ []))
-  tells_one t m z em ez es fits n low = record {
-    tallied = record {
-      ordered = canonical_cons terms (t.mono, pos t.size) [] (not_zero_test (pos t.size) (λ e. n (sym es ∙ ap unsigned_abs e))) tt tt;
-      bulk = (refl, (let h : unsigned_abs (value t.sum) ≤ t.size = subst₂ (λ a b. a ≤ b) (ap unsigned_abs (sym ez)) (sym es) (let k : unsigned_abs z ≤ unsigned_abs z = omega arith in k) in h), refl, tt);
-      within = (subst (λ k. k < 2 ^ 127) (sym es) fits, subst HasLowExponents (sym em) low, tt);
-      few = omega arith;
-    };
-    sum = ap₂ (λ k y. polynomial_of ((k, y) ∷ [])) em ez;
-    bulk = ap₂ (λ k y. polynomial_of ((k, pos y) ∷ [])) em es;
-  }
 
   -- ---- two halves
 

@@ -9,7 +9,6 @@ use Rattle.lie_math.specs.Integer.{coefficients, is_zero_int, int_nil}
 use Rattle.lie_math.specs.Polynomial.{polynomial_of, terms, ◌+ᴾ◌, term}
 use Rattle.lie_math.specs.Limits.{FitsNumber, IsWithinLimits}
 use Rattle.lie_poly.specs.Bulk.{IsBulkOf, AreWithin}
-use Rattle.lie_math.proofs.Integer.{unsigned_abs_zero}
 use Rattle.lie_math.specs.FiniteSum.{IsCanonical}
 use Rattle.lie_math.proofs.CanonicalLists.{canonical_below, canonical_tail, canonical_cons, of-cons}
 use Rattle.lie_math.proofs.Limits.{IsNonNegative, term_is}
@@ -96,9 +95,6 @@ zeros_append [] fs = refl
 zeros_append (e ∷ es) fs =
     ap (λ gs. with_term e.0 e.1 gs) (zeros_append es fs)
     ∙ (elim (is_zero_int e.1) as (λ z. cond z (without_zeros es ++ without_zeros fs) (e ∷ (without_zeros es ++ without_zeros fs)) ≡ cond z (without_zeros es) (e ∷ without_zeros es) ++ without_zeros fs) [ true ↦ refl | false ↦ refl ])
-
-pub with_zero : (m : Monomial) (z : ℤ) (es : List (Monomial × ℤ)) → unsigned_abs z ≡ 0 → with_term m z es ≡ es
-with_zero m z es e = ap (λ y. with_term m y es) (unsigned_abs_zero z e)
 
 pub with_other : (m : Monomial) (z : ℤ) (es : List (Monomial × ℤ)) → ¬ (unsigned_abs z ≡ 0) → with_term m z es ≡ (m, z) ∷ es
 with_other m z es n = by_test (is_zero_int z) refl

@@ -1,9 +1,7 @@
 -- Absolute values of coefficients, and what they bound.
-use Rattle.std.specs.Prelude.{◌≡◌, ℕ, zero, suc, ◌≤◌, Bool, true, false, cond, List, [], ◌∷◌, map, length, All, ℤ, pos, negsuc, ◌+ℤ◌, unsigned_abs}
+use Rattle.std.specs.Prelude.{◌≡◌, ℕ, zero, suc, Bool, List, [], ◌∷◌, map, length, All, ℤ, pos, negsuc, ◌+ℤ◌, unsigned_abs}
 use Rattle.std.proofs.Common.{refl, sym, ap, ap₂, subst, ◌∙◌, arith, get_or}
-use Rattle.std.specs.Ordering.{eq_by_cmp}
 use borrow.Author.Differences.{ints}
-use Rattle.lie_math.specs.Canonical.{value_at-tail}
 use Rattle.lie_math.specs.Codes.{same_vector_field}
 use Rattle.lie_math.specs.VectorField.{VectorField, component}
 use Rattle.lie_math.specs.Variables.{IsIn}
@@ -11,31 +9,18 @@ use Rattle.lie_math.proofs.Variables.{in-0ᴾ}
 use Rattle.lie_geometry.specs.Coordinates.{Space}
 use Rattle.lie_geometry.specs.Invariance.{IsFieldOn}
 use Rattle.lie_geometry.specs.Prolongation.{InZ, is_in_z}
-use Rattle.lie_ring.specs.Entries.{entries}
 use Rattle.lie_prolong.specs.Bulks.{absolute_field}
 use Rattle.lie_math.specs.Derivation.{sum_of}
 use Rattle.lie_math.specs.FiniteSumLaws.{value-plus, value-none, ext}
-use Rattle.lie_math.specs.Integer.{coefficients}
-use Rattle.lie_math.specs.Limits.{absolutes, absolute}
-use Rattle.lie_math.specs.Monomial.{Monomial, monomial_cmp}
-use Rattle.lie_math.specs.MonomialOrder.{monomial_cmp_total, monomial_cmp-IsAntisymmetric}
-use Rattle.lie_math.specs.Polynomial.{WholePolynomial, terms, coefficient, polynomial_of, 0ᴾ, ◌+ᴾ◌, ◌*ᴾ◌, constant, negᴾ}
+use Rattle.lie_math.specs.Limits.{absolute}
+use Rattle.lie_math.specs.Monomial.{Monomial}
+use Rattle.lie_math.specs.Polynomial.{WholePolynomial, terms, coefficient, 0ᴾ, ◌+ᴾ◌, ◌*ᴾ◌, constant, negᴾ}
 use Rattle.lie_math.specs.PolynomialRing.{negᴾ_l, one-*ᴾ}
-use Rattle.lie_math.proofs.Limits.{at, IsCovered, IsNonNegative}
+use Rattle.lie_math.proofs.Limits.{IsCovered, IsNonNegative}
 use Rattle.lie_poly.proofs.BulkLists.{Bounds}
-use Rattle.lie_math.specs.FiniteSum.{IsCanonical}
-use Rattle.lie_math.proofs.CanonicalLists.{canonical_below, canonical_tail}
 use Rattle.lie_jet.proofs.FormBounds.{coefficient_absolute, absolute_none}
-use Rattle.lie_jet.proofs.TotalParts.{entries_same}
 
 -- ---- the coefficients of the absolute value
-at_absolutes : (m : Monomial) (es : List (Monomial × ℤ)) → IsCanonical terms es → at m (absolutes es) ≡ pos (unsigned_abs (at m es))
-at_absolutes m [] h = refl
-at_absolutes m (e ∷ es) h = by (eq_by_cmp monomial_cmp m e.0) e.1 _ _ (at_absolutes m es (canonical_tail terms e es h)) (value_at-tail monomial_cmp coefficients monomial_cmp_total monomial_cmp-IsAntisymmetric m e es (canonical_below terms e es h))
-  where
-    by : (t : Bool) (a x y : ℤ) → y ≡ pos (unsigned_abs x) → x ≡ cond t (pos 0) (cond t a (pos 0) +ℤ x) → cond t (pos (unsigned_abs a)) (pos 0) +ℤ y ≡ pos (unsigned_abs (cond t a (pos 0) +ℤ x))
-    by true a x y e f = omega (arith, ints)
-    by false a x y e f = omega (arith, ints)
 
 -- ---- p is bounded by b, which has no negative coefficient
 pub record IsBounded (p b : WholePolynomial) : Type 0 where
@@ -59,12 +44,6 @@ absolute_bounded p b h = record { bounds = λ m. here (coefficient p m) _ _ (coe
   where
     here : (x y z : ℤ) → y ≡ pos (unsigned_abs x) → Bounds x z → Bounds y z
     here x y z e h = record { covered = let k = h.covered in omega (arith, ints); plain = h.plain }
-
-pub absolute_covered : (p : WholePolynomial) → IsCovered (absolute p) p
-absolute_covered p = record { at_most = λ m. here (coefficient p m) _ (coefficient_absolute p m) }
-  where
-    here : (x y : ℤ) → y ≡ pos (unsigned_abs x) → unsigned_abs y ≤ unsigned_abs x
-    here x y e = omega (arith, ints)
 
 pub absolute-nonneg : (p : WholePolynomial) → IsNonNegative p → absolute p ≡ p
 absolute-nonneg p h = ext terms (absolute p) p (λ m. coefficient_absolute p m ∙ sym (h.plain m))
@@ -121,10 +100,6 @@ left_over_sum p b = ext terms (absolute p +ᴾ left_over p b) b (λ m. here _ _ 
   where
     here : (a s x y t : ℤ) → t ≡ a +ℤ s → a ≡ pos (unsigned_abs x) → s +ℤ pos (unsigned_abs x) ≡ y → t ≡ y
     here a s x y t e f g = omega (arith, ints)
-
-pub absolute_listed : (p : WholePolynomial) (xs ys : List (Monomial × ℤ)) → entries (λ z. z) xs ≡ p.list → ys ≡ absolutes xs → polynomial_of (entries (λ z. z) ys) ≡ absolute p
-unfolding absolute
-absolute_listed p xs ys e f = ap polynomial_of (entries_same ys ∙ f ∙ ap absolutes (sym (entries_same xs) ∙ e))
 
 pub absolute_field_is : (V W : VectorField) → W.denominator ≡ V.denominator → W.parts ≡ map absolute V.parts → W ≡ absolute_field V
 absolute_field_is V W e f = same_vector_field W (absolute_field V) (ap₂ (λ d ps. (d, ps)) e f)

@@ -113,9 +113,6 @@ module _ (S : Space) (j : Jet) (none : indices (take S.p j.counts) ≡ []) where
   unfolding symbolic_coefficient
   symbolic_first = ap (λ W. symbolic_coefficient S j.dep W) (sym none)
 
-  pub symbolic_bulk_first : unknown (S.p + j.dep) ≡ symbolic_bulk_at S (coordinate_of S j)
-  symbolic_bulk_first = ap (λ W. symbolic_coefficient_bulk S j.dep W) (sym none)
-
 -- ---- a component
 module _ (v : ℕ) where
   one_is : (m : Monomial) (z : ℤ) (p : WholePolynomial) → m ≡ unit → z ≡ pos 1 → p ≡ polynomial_of ((m, z) ∷ []) → p ≡ constant (pos 1)

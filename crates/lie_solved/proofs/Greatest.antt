@@ -66,10 +66,6 @@ module _ (S : Space) where
     greatest = every-append (λ w. is_greater S j w ≡ false) ws (w ∷ []) h.greatest (e, tt);
   }
 
-  pub best_low : (ws : List ℕ) (w : ℕ) (best : Option Jet) → w < S.p + S.q → IsBest S ws best → IsBest S (ws ++ w ∷ []) best
-  best_low ws w None lt h = every-append (λ w. ltb w (S.p + S.q) ≡ true) ws (w ∷ []) h (less_test w (S.p + S.q) lt, tt)
-  best_low ws w (Some j) lt h = kept_best ws w j (low_not_greater j w (less_test w (S.p + S.q) lt)) h
-
   -- ---- a derivative
   module _ (small : IsSmall S) (w : ℕ) (j : Jet) (high : S.p + S.q ≤ w) (is : IsJet S 12 j × (coordinate S w ≡ coordinate_of S j)) where
     number_is : number S (coordinate_of S j) ≡ w

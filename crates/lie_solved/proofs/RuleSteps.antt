@@ -132,9 +132,6 @@ module _ (S : Space) where
         jets = every-append (λ (r : LeadRule). IsJet S 6 r.lead) rules (r ∷ []) h.jets (k.jet, tt);
       }
 
-  pub no_rules : {X : Type 0} (f : X → EquationRead) → AreRules S (map f []) []
-  no_rules f = record { passed = record { equations = tt; leads = λ i j d a b. absurd (omega arith) }; jets = tt }
-
   pub rules_few : (es : List EquationRead) (rs : List SolvedEquation) → AreSolvedBy S es rs → length es ≡ length rs
   rules_few [] [] h = refl
   rules_few [] (r ∷ rs) h = absurd h
