@@ -35,7 +35,7 @@ pub record IsEquationRead (S : Space) (names text : List ℕ) (ts : List (Monomi
 pub none_small : AreSmall []
 none_small m = omega arith
 
-end_then : (x : List (Monomial × ℤ) × List ℕ) (ts : List (Monomial × ℤ)) → equation_end x ≡ Ok ts → (x.0 ≡ ts) × (x.1 ≡ [])
+pub end_then : (x : List (Monomial × ℤ) × List ℕ) (ts : List (Monomial × ℤ)) → equation_end x ≡ Ok ts → (x.0 ≡ ts) × (x.1 ≡ [])
 end_then x ts h =
     let g = guard_else (length x.1 == 0) (stop Syntax x.1) (Ok x.0) ts h in
     (ok_is x.0 ts g.1, empty x.1 (grind (arith, nat_tests, g.0)))
@@ -74,7 +74,7 @@ right_is S names text x ts left h = go x.1 refl h
     go [] at e = cc
     go (c ∷ cs) at e = by_test c cs (c == 61) at refl e sides
 
-equation_of-is : (S : Space) (names text : List ℕ) (ts : List (Monomial × ℤ)) → equation_of S names text ≡ Ok ts → IsEquationRead S names text ts
+pub equation_of-is : (S : Space) (names text : List ℕ) (ts : List (Monomial × ℤ)) → equation_of S names text ≡ Ok ts → IsEquationRead S names text ts
 unfolding equation_of
 equation_of-is S names text ts h = bind_then (sum_at S names false [] text) _ ts h (λ x is_x rest. right_is S names text x ts (sum_at-is S names false [] text x is_x) rest)
 

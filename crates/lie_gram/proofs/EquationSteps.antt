@@ -9,7 +9,7 @@ use Rattle.lie_gram.specs.Leads.{lead_of}
 use Rattle.lie_gram.specs.Files.{equation_at}
 use Rattle.lie_jet.proofs.TotalParts.{entries_same}
 
-pub equation_is : (S : Space) (names text : List ℕ) (ts fs : List (Monomial × ℤ)) (lead : Option Coordinate) (diff : WholePolynomial)
-    → equation_of S names text ≡ Ok ts → lead ≡ lead_of S names text → diff ≡ polynomial_of (entries (λ w. w) fs) → fs ≡ ts → equation_at S names text ≡ Ok (record { lead = lead; diff = diff })
+pub equation_is : (S : Space) (names text : List ℕ) (ts : List (Monomial × ℤ)) (lead : Option Coordinate) (diff : WholePolynomial)
+    → equation_of S names text ≡ Ok ts → lead ≡ lead_of S names text → diff ≡ polynomial_of ts → equation_at S names text ≡ Ok (record { lead = lead; diff = diff })
 unfolding equation_at
-equation_is S names text ts fs lead diff is_terms is_lead is_diff same = rw (is_terms, is_lead, is_diff, entries_same fs, same) refl
+equation_is S names text ts lead diff is_terms is_lead is_diff = rw (is_terms, is_lead, is_diff) refl

@@ -59,3 +59,7 @@ mod CanonicalTerms
 pub mod CanonicalLeads
 mod PrintedBytes
 mod CanonicalFiles
+mod TermLimits
+mod TermCounts
+mod EquationLimits
+mod ShortLines

@@ -1,9 +1,9 @@
 -- Reading the lines of a file: the header and the names.
-use Rattle.std.specs.Prelude.{ℕ, ◌-◌, ◌≡◌, Bool, ◌&&◌, ◌==◌, nat_le, nat_eq, List, [], ◌∷◌, ◌++◌, length, if◌then◌else◌, Some, None, Ok, Err, codes}
+use Rattle.std.specs.Prelude.{ℕ, ◌-◌, ◌≡◌, ◌≤◌, Bool, ◌&&◌, ◌==◌, nat_le, nat_eq, List, [], ◌∷◌, ◌++◌, length, if◌then◌else◌, Some, None, Ok, Err, codes}
 use Rattle.std.specs.declared.option.Option.{Option}
 use Rattle.std.specs.declared.result.Result.{Result}
 use Rattle.std.specs.Cmp.Lexicographic.{pointwise}
-use Rattle.std.specs.List.{list_any}
+use Rattle.std.specs.List.{list_any, AllByRecursion}
 use Rattle.lie_gram.specs.declared.fault.BadKind.TheVariants.{Header, UnknownWord, NameBad, NameTwice, TooManyNames, Syntax}
 use Rattle.lie_gram.specs.declared.runs.Class.TheVariants.{Word, Letter}
 use Rattle.lie_gram.specs.declared.stop.Stop.{Stop}
@@ -37,6 +37,10 @@ IsFailed (Fault s) content left fail = fail ≡ placed s content left
 IsFailed NoMemory content left fail = fail ≡ fails.NoMemory
 
 -- ---- lines
+-- no line has more bytes than a text may have
+abbrev pub AreShort : List (List ℕ) → Type 0
+AreShort lines = AllByRecursion (λ l. length l ≤ 65536) lines
+
 -- the first word is a keyword
 abbrev pub is_word : List ℕ → List ℕ → Bool
 is_word keyword text = pointwise nat_eq (run Word (after_blanks text)) keyword

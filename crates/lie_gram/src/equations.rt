@@ -1,7 +1,7 @@
 // The equations of a file.
 ghost use Rattle.std.specs.Prelude.{◌≡◌, ◌+◌, ◌≤◌, length, map, option_map, []};
 ghost use Rattle.lie_gram.specs.Stops.{Reads};
-ghost use Rattle.lie_gram.specs.FileLines.{ReadsFile};
+ghost use Rattle.lie_gram.specs.FileLines.{ReadsFile, AreShort};
 ghost use Rattle.lie_gram.specs.Files.{equation_at, end_of, line_of, equations_from};
 ghost use Rattle.lie_gram.specs.Equations.{equation_read};
 
@@ -12,9 +12,8 @@ use crate::runs::{Class, after_blanks, split_run};
 use crate::stop::LineFail;
 use crate::sum::equation_of;
 use crate::system::Equation;
+use crate::within_limits::sum_within_limits;
 use lie_jet::Space;
-use lie_poly::Flat;
-use lie_ring::Polynomial;
 use std::alloc::Global;
 
 /// The most equations of a file.
@@ -23,15 +22,14 @@ const MAX_EQUATIONS: usize = 16;
 // The equation that a text spells.
 #[tactic(auto, unfolding(crate::specs::Files::equation_at))]
 fn equation_at(alloc: Global, space: Space, names: &[u8], text: &[u8]) -> Result<Equation, LineFail>
-    requires { length names.now ≡ space.p + space.q }
+    requires names { length names.now ≡ space.p + space.q }
+    requires short { length text.now ≤ 65536 }
     ensures { Reads (equation_read space) result (equation_at space names.now text.now) }
 {
     let terms = equation_of(alloc, space, names, text)?;
     let lead = lead_of(space, names, text);
-    match Flat::of_terms(alloc, terms.list.as_slice()) {
-        Ok(diff) => Ok(Equation { lead, diff }),
-        Err(_) => Err(LineFail::NoMemory),
-    }
+    let diff = sum_within_limits(alloc, terms.list.as_slice())?;
+    Ok(Equation { lead, diff })
 }
 
 // Whether only skipped lines are behind the end.
@@ -65,6 +63,7 @@ fn line_of(
     rest: &[&[u8]],
 ) -> Result<Option<Equation>, FileFail>
     requires names { length names.now ≡ space.p + space.q }
+    requires short { length content.now ≤ 65536 }
     requires few { length rest.now ≤ 65537 }
     ensures { ReadsFile (option_map (equation_read space)) result (line_of space names.now count content.now (map (λ l. l.now) rest.now)) }
 {
@@ -97,6 +96,7 @@ pub fn equations_of(
 ) -> Result<Vec<Equation>, FileFail>
     requires names { length names.now ≡ space.p + space.q }
     requires few { length lines.now ≤ 65537 }
+    requires short { AreShort (map (λ l. l.now) lines.now) }
     ensures { ReadsFile (λ es. map (equation_read space) es.items) result (equations_from space names.now [] (map (λ l. l.now) lines.now)) }
 {
     let mut equations: Vec<Equation> = Vec::new(alloc);

@@ -1,6 +1,6 @@
 // The system of a file, by its lines.
 ghost use Rattle.std.specs.Prelude.{◌≡◌, ◌≤◌, ◌+◌, ◌-◌, length, map};
-ghost use Rattle.lie_gram.specs.FileLines.{ReadsFile};
+ghost use Rattle.lie_gram.specs.FileLines.{ReadsFile, AreShort};
 ghost use Rattle.lie_gram.specs.Files.{system_of};
 ghost use Rattle.lie_gram.specs.Equations.{system_read};
 
@@ -15,7 +15,8 @@ use std::alloc::Global;
 /// The system that the lines of a file spell, or its first fault.
 #[tactic(auto, unfolding(crate::specs::Files::system_of))]
 pub fn system_of(alloc: Global, lines: &[&[u8]]) -> Result<System, FileFail>
-    requires { length lines.now ≤ 65537 }
+    requires few { length lines.now ≤ 65537 }
+    requires short { AreShort (map (λ l. l.now) lines.now) }
     ensures { ReadsFile system_read result (system_of (map (λ l. l.now) lines.now)) }
 {
     let rest = after_header(lines)?;

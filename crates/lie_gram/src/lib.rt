@@ -30,6 +30,7 @@ mod sum;
 mod system;
 mod term;
 mod terms;
+mod within_limits;
 
 pub use canonical_text::canonical;
 pub use fault::{BadFile, BadKind, ReadFail};

@@ -4,6 +4,7 @@ ghost use Rattle.lie_gram.specs.Meaning.{SystemRead};
 ghost use Rattle.lie_gram.specs.declared.fault.ReadFail.{ReadFail as AFault};
 ghost use Rattle.lie_gram.specs.FileFaults.{IsFault, IsFaultToldOf};
 ghost use Rattle.lie_gram.specs.FileGrammar.{is_allowed, IsFile};
+ghost use Rattle.lie_gram.specs.FileLines.{AreShort};
 ghost use Rattle.lie_gram.specs.Reading.{read_lines, read, Answers};
 ghost use Rattle.lie_gram.specs.Places.{bad, last_length, file_fault, not_allowed_from};
 ghost use Rattle.lie_gram.specs.Equations.{system_read};
@@ -110,7 +111,8 @@ fn file_fault(lines: &[&[u8]], fail: FileFail) -> ReadFail
 
 // The system that lines spell, or their first fault.
 fn read_lines(alloc: Global, lines: &[&[u8]]) -> Result<System, ReadFail>
-    requires { length lines.now ≤ 65537 }
+    requires few { length lines.now ≤ 65537 }
+    requires short { AreShort (map (λ l. l.now) lines.now) }
     ensures { Answers system_read result (read_lines (map (λ l. l.now) lines.now)) }
 {
     match system_of(alloc, lines) {
