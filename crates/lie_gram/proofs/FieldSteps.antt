@@ -36,10 +36,12 @@ pub times_entries_list : (g : ℕ) (es : List (Monomial × ℤ)) → times_list 
 times_entries_list g [] = refl
 times_entries_list g (e ∷ es) = ap₂ (λ (m : Monomial) (l : List (Monomial × ℤ)). (m, pos g *ℤ e.1) ∷ l) (plus_idl powers e.0) (times_entries_list g es)
 
-pub divided_made : (g : ℕ) (out slice : List (Monomial × ℤ)) (p q : WholePolynomial) → times_entries g out ≡ p.list → slice ≡ out → q ≡ polynomial_of (entries (λ z. z) slice) → constant (pos g) *ᴾ q ≡ p
+pub divided_all : (g i : ℕ) (out items fs : List (Monomial × ℤ)) (p : WholePolynomial) → times_entries g out ≡ take i items → length items ≤ i → items ≡ fs → entries (λ z. z) fs ≡ p.list → times_entries g out ≡ p.list
+divided_all g i out items fs p h le same is = h ∙ take_all items i le ∙ same ∙ sym (entries_same fs) ∙ is
+
+pub divided_made : (g : ℕ) (out slice : List (Monomial × ℤ)) (p q : WholePolynomial) → times_entries g out ≡ p.list → slice ≡ out → q ≡ polynomial_of slice → constant (pos g) *ᴾ q ≡ p
 divided_made g out slice p q e s is =
-    ap (λ r. constant (pos g) *ᴾ r) (is ∙ ap polynomial_of (entries_same slice ∙ s))
-    ∙ sym (polynomial_of-times unit (pos g) out) ∙ ap polynomial_of (times_entries_list g out ∙ e) ∙ of_list terms p
+    ap (λ r. constant (pos g) *ᴾ r) (is ∙ ap polynomial_of s) ∙ sym (polynomial_of-times unit (pos g) out) ∙ ap polynomial_of (times_entries_list g out ∙ e) ∙ of_list terms p
 
 -- ---- lists
 pub terms_over-append : (n s : ℕ) (ts us : List FieldTerm) → terms_over n s (ts ++ us) ≡ terms_over n s ts ++ terms_over n s us

@@ -105,7 +105,7 @@ pub record IsSignedRead (names : List ℕ) (negative : Bool) (ts : List FieldTer
   pub put : x.0 ≡ ts ++ term ∷ []
   pub within : AreWithinLimits (ts ++ term ∷ [])
 
-signed_told : (names : List ℕ) (negative : Bool) (ts : List FieldTerm) (text : List ℕ) → Told (IsSignedRead names negative ts text) (IsSignedFault names negative ts text) (signed_at names negative ts text)
+pub signed_told : (names : List ℕ) (negative : Bool) (ts : List FieldTerm) (text : List ℕ) → Told (IsSignedRead names negative ts text) (IsSignedFault names negative ts text) (signed_at names negative ts text)
 unfolding signed_at
 signed_told names negative ts text =
     told_bind (IsTermRead names negative text) (IsFieldTermFault names text) (IsSignedRead names negative ts text) (IsSignedFault names negative ts text) (field_term_at names negative text) _ (field_term_told names negative text)

@@ -63,3 +63,5 @@ mod TermLimits
 mod TermCounts
 mod EquationLimits
 mod ShortLines
+mod FieldLimits
+mod FieldTermCounts

@@ -7,6 +7,7 @@ use Rattle.std.specs.Global.{Vec}
 use Rattle.std.specs.BTreeMap.{BTreeMap}
 use Rattle.std.specs.Ordering.{is_eq}
 use Rattle.lie_math.specs.Monomial.{Monomial, exponent}
+use Rattle.lie_math.specs.Limits.{IsWithinLimits, absolutes}
 use Rattle.lie_math.specs.Polynomial.{WholePolynomial, 0ᴾ, polynomial_of}
 use Rattle.lie_systems.specs.Normalised.{common_divisor}
 use Rattle.lie_gram.specs.declared.field_factors.Factor.{Factor}
@@ -73,6 +74,10 @@ pub record IsTermOver (n : ℕ) (t : FieldTerm) : Type 0 where
 pub record IsTermIn (k : ℕ) (t : FieldTerm) : Type 0 where
   pub place : t.place < k
   pub monomial : (v : ℕ) → k ≤ v → exponent t.monomial v ≡ 0
+
+-- the sums over n of the terms at each place are within the limits, with absolute values
+abbrev pub ArePartsWithin : ℕ → List FieldTerm → Type 0
+ArePartsWithin n ts = (s : ℕ) → IsWithinLimits (polynomial_of (absolutes (terms_over n s ts)))
 
 -- the sums over n of the terms at the first k places
 pub record ArePartsOver (n : ℕ) (ts : List FieldTerm) (k : ℕ) (parts : List WholePolynomial) : Type 0 where

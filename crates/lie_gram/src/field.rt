@@ -16,6 +16,7 @@ use crate::reading::{MAX_BYTES, bad};
 use crate::stop::LineFail;
 use crate::system::System;
 use lie_jet::Field;
+use lie_ring::NoMemory;
 use std::alloc::Global;
 
 // Whether a byte is allowed in a line: tab, and space to `~`.
@@ -82,7 +83,7 @@ pub fn read_field(alloc: Global, bytes: &[u8], system: &System) -> Result<Field,
     match read_terms(alloc, bytes, system.names.bytes()) {
         Ok(terms) => match field_of(alloc, space, &terms) {
             Ok(field) => Ok(field),
-            Err(_) => Err(ReadFail::NoMemory),
+            Err(NoMemory) => Err(ReadFail::NoMemory),
         },
         Err(fail) => Err(fail),
     }

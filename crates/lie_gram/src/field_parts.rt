@@ -2,15 +2,17 @@
 ghost use Rattle.std.specs.Prelude.{◌≡◌, ◌≤◌, ◌<◌, ◌+◌, ◌*◌, ◌/◌, ◌^◌, [], ◌∷◌, ◌++◌, length, get_or, ℕ, pos, ◌*ℤ◌, unsigned_abs, map, IfOk};
 ghost use Rattle.std.specs.List.{AllByRecursion as Every};
 ghost use Rattle.std.specs.Int.{◌∣◌};
+ghost use Rattle.lie_math.specs.Limits.{IsWithinLimits, absolutes};
 ghost use Rattle.lie_math.specs.Polynomial.{polynomial_of, constant, 0ᴾ, ◌*ᴾ◌};
+ghost use Rattle.lie_gram.specs.Exponents.{HasSmallExponents};
 ghost use Rattle.lie_gram.specs.FieldMeaning.{terms_over, IsSumOfTerms};
-ghost use Rattle.lie_gram.specs.FieldAnswers.{IsTermOver, IsTermIn, ArePartsOver, content_from, contents_from, times_entries};
+ghost use Rattle.lie_gram.specs.FieldAnswers.{IsTermOver, IsTermIn, ArePartsWithin, ArePartsOver, content_from, contents_from, times_entries};
 
 use crate::field_term::FieldTerm;
 use crate::field_terms::FieldTerms;
 use crate::fraction::common_divisor;
+use crate::within_limits::sum_within_limits;
 use lie_jet::{Field, JetPoly, Space};
-use lie_poly::Flat;
 use lie_ring::{Mono, NoMemory, Polynomial, Ring, Whole};
 use std::alloc::Global;
 
@@ -62,16 +64,14 @@ fn part_of(
 ) -> Result<JetPoly, NoMemory>
     requires terms { Every (IsTermOver denominator) terms.now }
     requires small { denominator < 2 ^ 127 }
+    requires within { IsWithinLimits (polynomial_of (absolutes (terms_over denominator place terms.now))) }
     ensures { IfOk result (λ part. part ≡ polynomial_of (terms_over denominator place terms.now)) }
 {
     let mut list: Vec<(Mono, Whole)> = Vec::new(alloc);
     for term in terms {
         list = push_term(list, alloc, denominator, place, term)?;
     }
-    match Flat::of_terms(alloc, list.as_slice()) {
-        Ok(part) => Ok(part),
-        Err(_) => Err(NoMemory),
-    }
+    sum_within_limits(alloc, list.as_slice())
 }
 
 // The sums of the terms at each place.
@@ -83,6 +83,7 @@ fn parts_of(
 ) -> Result<Vec<JetPoly>, NoMemory>
     requires terms { Every (IsTermOver denominator) terms.now }
     requires small { denominator < 2 ^ 127 }
+    requires within { ArePartsWithin denominator terms.now }
     ensures { IfOk result (λ parts. ArePartsOver denominator terms.now count parts.items) }
 {
     let mut parts: Vec<JetPoly> = Vec::new(alloc);
@@ -174,14 +175,13 @@ fn divided(alloc: Global, divisor: u128, part: &JetPoly) -> Result<JetPoly, NoMe
     ensures { IfOk result (λ rest. constant (pos divisor) *ᴾ rest ≡ part.now) }
 {
     let mut list: Vec<(Mono, Whole)> = Vec::new(alloc);
+    // Counting the terms tells that the part is within the limits.
+    let _ = part.len();
     let terms = part.terms(alloc)?;
     for term in terms.as_slice() {
         list = push_divided(list, alloc, divisor, term)?;
     }
-    match Flat::of_terms(alloc, list.as_slice()) {
-        Ok(part) => Ok(part),
-        Err(_) => Err(NoMemory),
-    }
+    sum_within_limits(alloc, list.as_slice())
 }
 
 // The parts divided by a number that divides each coefficient.
@@ -200,7 +200,9 @@ fn all_divided(alloc: Global, divisor: u128, parts: &[JetPoly]) -> Result<Vec<Je
 
 /// The field in lowest terms that is the sum of terms.
 pub fn field_of(alloc: Global, space: Space, terms: &FieldTerms) -> Result<Field, NoMemory>
-    requires { Every (IsTermIn (space.p + space.q)) terms.now.list.items }
+    requires terms { Every (IsTermIn (space.p + space.q)) terms.now.list.items }
+    requires small { Every (λ t. HasSmallExponents t.monomial) terms.now.list.items }
+    requires few { length terms.now.list.items ≤ 1000000 }
     ensures { IfOk result (IsSumOfTerms space terms.now.list.items) }
 {
     let parts = parts_of(

@@ -2,13 +2,20 @@ use Rattle.std.proofs.Common.{◌≡◌, ◌+◌, List, ℕ, ap, subst, Ok}
 use Rattle.lie_math.specs.VectorField.{VectorField}
 use Rattle.lie_gram.specs.Reading.{ReadFails}
 use Rattle.lie_gram.specs.FieldReading.{read_terms}
+use Rattle.lie_gram.proofs.FieldTermCounts.{read_small, read_few}
 use Rattle.lie_gram.proofs.FieldTexts.{read_in, found_field, only_field, no_fault, fails_only, fails_told, fails_stops}
 use Rattle.lie_gram.proofs.field.read_field.Goals as goal
 
-pub field_of-requires : goal.field_of-requires
-field_of-requires c =
+pub field_of-requires-clause-terms : goal.field_of-requires-clause-terms
+field_of-requires-clause-terms c =
     read_in c.args.system.now.names c.args.bytes.now c.in-Ok.terms.list.items (c.args.system.now.space.p + c.args.system.now.space.q) c.requires
     (subst (λ (names : List ℕ). read_terms names c.args.bytes.now ≡ Ok c.in-Ok.terms.list.items) c.bytes.ensures c.in-Ok.ensures)
+
+pub field_of-requires-clause-small : goal.field_of-requires-clause-small
+field_of-requires-clause-small c = read_small c.bytes.result.now c.args.bytes.now c.in-Ok.terms.list.items c.in-Ok.ensures
+
+pub field_of-requires-clause-few : goal.field_of-requires-clause-few
+field_of-requires-clause-few c = read_few c.bytes.result.now c.args.bytes.now c.in-Ok.terms.list.items c.in-Ok.ensures
 
 pub returns-in-Ok-field_of-clause-found : goal.returns-in-Ok-field_of-clause-found
 returns-in-Ok-field_of-clause-found c =

@@ -1,9 +1,13 @@
 use Rattle.std.proofs.Common.{arith, sym, subst, ◌∙◌}
-use Rattle.std.specs.Prelude.{ℤ, unsigned_abs}
+use Rattle.std.specs.Prelude.{ℤ, List, unsigned_abs}
 use Rattle.std.specs.Int.{◌∣◌}
 use Rattle.std.specs.List.{AllByRecursion as Every}
+use Rattle.std.proofs.lemmas.Result.{IfOk-weaker}
+use Rattle.lie_math.specs.Limits.{IsWithinLimits, absolutes}
 use Rattle.lie_math.specs.Monomial.{Monomial}
-use Rattle.lie_gram.proofs.FieldSteps.{divided_made}
+use Rattle.lie_math.specs.Polynomial.{polynomial_of}
+use Rattle.lie_gram.proofs.FieldLimits.{divided_within}
+use Rattle.lie_gram.proofs.FieldSteps.{divided_all, divided_made}
 use Rattle.lie_gram.proofs.field_parts.divided.Goals as goal
 use Rattle.lie_jet.proofs.TotalParts.{entries_same}
 use Rattle.lie_ring.proofs.Fronts.{every_at, all_taken}
@@ -13,8 +17,17 @@ push_divided-requires-clause-divides c =
     every_at (λ (e : Monomial × ℤ). c.args.divisor ∣ unsigned_abs e.1) c.as_slice-term-items.result.now c.loop-term.term-index c.term-item.result c.loop-term-test.true c.term-item.is
     (subst (Every (λ (e : Monomial × ℤ). c.args.divisor ∣ unsigned_abs e.1)) (sym (c.as_slice-term-items.ensures.value ∙ sym (entries_same c.in_ok-terms.terms.items) ∙ c.in_ok-terms.ensures)) c.requires.divides)
 
-pub returns-in-Ok : goal.returns-in-Ok
-returns-in-Ok c =
-    divided_made c.args.divisor c.loop-term.list.items c.as_slice.result.now c.args.part.now c.in-Ok.part
-    (c.loop-term.invariant ∙ all_taken c.as_slice-term-items.result.now c.loop-term.term-index (omega (arith, c.loop-term-test.false)) ∙ c.as_slice-term-items.ensures.value ∙ sym (entries_same c.in_ok-terms.terms.items) ∙ c.in_ok-terms.ensures)
-    c.as_slice.ensures.value c.in-Ok.ensures.sum
+pub sum_within_limits-requires : goal.sum_within_limits-requires
+sum_within_limits-requires c =
+    let all =
+    divided_all c.args.divisor c.loop-term.term-index c.loop-term.list.items c.as_slice-term-items.result.now c.in_ok-terms.terms.items c.args.part.now c.loop-term.invariant (omega (arith, c.loop-term-test.false)) c.as_slice-term-items.ensures.value
+    c.in_ok-terms.ensures in
+    subst (λ (es : List (Monomial × ℤ)). IsWithinLimits (polynomial_of (absolutes es))) (sym c.as_slice.ensures.value)
+    (divided_within c.args.divisor c.loop-term.list.items c.args.part.now c.requires.some all c.len.ensures.limits)
+
+pub returns : goal.returns
+returns c =
+    let all =
+    divided_all c.args.divisor c.loop-term.term-index c.loop-term.list.items c.as_slice-term-items.result.now c.in_ok-terms.terms.items c.args.part.now c.loop-term.invariant (omega (arith, c.loop-term-test.false)) c.as_slice-term-items.ensures.value
+    c.in_ok-terms.ensures in
+    IfOk-weaker c.sum_within_limits.result _ _ (λ rest is. divided_made c.args.divisor c.loop-term.list.items c.as_slice.result.now c.args.part.now rest all c.as_slice.ensures.value is) c.sum_within_limits.ensures

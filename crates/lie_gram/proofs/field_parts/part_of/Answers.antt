@@ -1,5 +1,4 @@
-use Rattle.std.proofs.Common.{arith, sym, ap, ◌∙◌, ◌++◌, ◌∷◌, [], take}
-use Rattle.lie_math.specs.Polynomial.{polynomial_of}
+use Rattle.std.proofs.Common.{sym, ap, ◌∙◌, ◌++◌, ◌∷◌, [], take}
 use Rattle.lie_gram.specs.FieldMeaning.{terms_over}
 use Rattle.lie_gram.proofs.FieldSteps.{terms_over-append}
 use Rattle.lie_gram.proofs.field_parts.part_of.Goals as goal
@@ -11,8 +10,3 @@ loop-term-preserved c =
     c.in_ok-list.ensures ∙ ap (λ l. l ++ terms_over c.args.denominator c.args.place (c.term-item.result ∷ [])) c.loop-term.invariant
     ∙ sym (terms_over-append c.args.denominator c.args.place (take c.loop-term.term-index c.args.terms.now) (c.term-item.result ∷ []))
     ∙ ap (terms_over c.args.denominator c.args.place) (take_more c.args.terms.now c.loop-term.term-index c.term-item.result c.loop-term-test.true c.term-item.is)
-
-pub returns-in-Ok : goal.returns-in-Ok
-returns-in-Ok c =
-    c.in-Ok.ensures.sum
-    ∙ ap polynomial_of (entries_same c.as_slice.result.now ∙ c.as_slice.ensures.value ∙ c.loop-term.invariant ∙ ap (terms_over c.args.denominator c.args.place) (all_taken c.args.terms.now c.loop-term.term-index (omega (arith, c.loop-term-test.false))))
