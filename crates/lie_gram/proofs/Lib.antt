@@ -65,3 +65,4 @@ mod EquationLimits
 mod ShortLines
 mod FieldLimits
 mod FieldTermCounts
+mod NameBytes

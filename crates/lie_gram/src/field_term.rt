@@ -49,6 +49,6 @@ pub fn field_term_at<'a>(
             },
             rest,
         )),
-        None => Err(LineFail::NoMemory),
+        None => unreachable!(),
     }
 }

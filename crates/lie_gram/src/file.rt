@@ -9,7 +9,7 @@ use crate::lines::FileFail;
 use crate::names::{after_header, names_of};
 use crate::system::System;
 use lie_jet::Space;
-use lie_ring::Text;
+use lie_ring::{NoMemory, Text};
 use std::alloc::Global;
 
 /// The system that the lines of a file spell, or its first fault.
@@ -33,6 +33,7 @@ pub fn system_of(alloc: Global, lines: &[&[u8]]) -> Result<System, FileFail>
             names,
             equations,
         }),
-        _ => Err(FileFail::NoMemory),
+        Ok(None) => unreachable!(),
+        Err(NoMemory) => Err(FileFail::NoMemory),
     }
 }

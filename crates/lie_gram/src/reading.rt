@@ -5,7 +5,7 @@ ghost use Rattle.lie_gram.specs.declared.fault.ReadFail.{ReadFail as AFault};
 ghost use Rattle.lie_gram.specs.FileFaults.{IsFault, IsFaultToldOf};
 ghost use Rattle.lie_gram.specs.FileGrammar.{is_allowed, IsFile};
 ghost use Rattle.lie_gram.specs.FileLines.{AreShort};
-ghost use Rattle.lie_gram.specs.Reading.{read_lines, read, Answers};
+ghost use Rattle.lie_gram.specs.Reading.{read_lines, read_by, read, Answers};
 ghost use Rattle.lie_gram.specs.Places.{bad, last_length, file_fault, not_allowed_from};
 ghost use Rattle.lie_gram.specs.Equations.{system_read};
 
@@ -121,6 +121,20 @@ fn read_lines(alloc: Global, lines: &[&[u8]]) -> Result<System, ReadFail>
     }
 }
 
+// The system that bytes of at most 65,536 spell, or their first fault.
+fn read_short(alloc: Global, bytes: &[u8]) -> Result<System, ReadFail>
+    requires { length bytes.now ≤ 65536 }
+    ensures { Answers system_read result (read_by (not_allowed_from 1 1 bytes.now) bytes.now) }
+{
+    match first_not_allowed(bytes) {
+        Some((line, column)) => Err(bad(line, column, BadKind::NotAscii)),
+        None => {
+            let lines = lines_of(alloc, bytes)?;
+            read_lines(alloc, lines.as_slice())
+        }
+    }
+}
+
 // The system that the bytes spell, or their first fault.
 #[tactic(auto, unfolding(crate::specs::Reading::read))]
 fn read_bytes(alloc: Global, bytes: &[u8]) -> Result<System, ReadFail>
@@ -129,13 +143,7 @@ fn read_bytes(alloc: Global, bytes: &[u8]) -> Result<System, ReadFail>
     if MAX_BYTES < bytes.len() {
         return Err(bad(1, 1, BadKind::TooLong));
     }
-    match first_not_allowed(bytes) {
-        Some((line, column)) => Err(bad(line, column, BadKind::NotAscii)),
-        None => {
-            let lines = lines_of(alloc, bytes)?;
-            read_lines(alloc, lines.as_slice())
-        }
-    }
+    read_short(alloc, bytes)
 }
 
 /// The system whose file the bytes are, or their first fault.

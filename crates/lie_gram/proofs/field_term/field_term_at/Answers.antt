@@ -9,8 +9,8 @@ use Rattle.lie_gram.proofs.field_term.field_term_at.Goals as goal
 pub factors_at-requires-clause-small : goal.factors_at-requires-clause-small
 factors_at-requires-clause-small c = subst HasSmallExponents (sym c.one.ensures) unit_small
 
-pub returns-in-Some-clause-some : goal.returns-in-Some-clause-some
-returns-in-Some-clause-some c =
+pub returns-clause-some : goal.returns-clause-some
+returns-clause-some c =
     let n = c.in_ok-fraction.fraction.numerator in
     let d = c.in_ok-fraction.fraction.denominator in
     subst (λ g. 1 ≤ d / g) (sym c.common_divisor-divisor.ensures.value) (quotient_some (common_divisor n d) d (common_divisor_is n d).1 c.in_ok-fraction.ensures.some)

@@ -2,9 +2,9 @@ use Rattle.std.specs.Prelude.{List, ℕ, map}
 use Rattle.std.proofs.Common.{Bor, sym, subst}
 use Rattle.lie_gram.specs.FileLines.{AreShort}
 use Rattle.lie_gram.proofs.ShortLines.{text_short}
-use Rattle.lie_gram.proofs.reading.read_bytes.Goals as goal
+use Rattle.lie_gram.proofs.reading.read_short.Goals as goal
 
 pub read_lines-requires-clause-short : goal.read_lines-requires-clause-short
 read_lines-requires-clause-short c =
     subst (λ (ls : List (Bor (List ℕ))). AreShort (map (λ l. l.now) ls)) (sym c.as_slice.ensures.value)
-    (subst AreShort (sym c.in_ok-lines-in-None.ensures.lines) (text_short c.args.bytes.now c.if-bytes-gt-MAX_BYTES.false))
+    (subst AreShort (sym c.in_ok-lines-in-None.ensures.lines) (text_short c.args.bytes.now c.requires))
