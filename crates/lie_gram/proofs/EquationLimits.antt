@@ -9,9 +9,9 @@ use Rattle.lie_gram.specs.Exponents.{HasSmallExponents}
 use Rattle.lie_gram.specs.SumGrammar.{AreTerms, IsSum}
 use Rattle.lie_gram.specs.Terms.{equation_of}
 use Rattle.lie_gram.proofs.EquationLaws.{equation_of-is}
-use Rattle.lie_gram.proofs.FileTerms.{every-append}
 use Rattle.lie_gram.proofs.TermCounts.{equation_count}
 use Rattle.lie_gram.proofs.TermLimits.{HaveSmallExponents, terms_within}
+use Rattle.lie_ring.proofs.Fronts.{every-append}
 
 module _ (S : Space) (names : List ℕ) where
   further_small : (turned : Bool) (text : List ℕ) (ts : List (Monomial × ℤ)) (rest : List ℕ) → AreTerms S names turned text ts rest → HaveSmallExponents ts

@@ -3,11 +3,9 @@ use Rattle.std.specs.Prelude.{ℕ, ◌≡◌, List, ℤ, Ok, Option, refl}
 use Rattle.lie_math.specs.Monomial.{Monomial}
 use Rattle.lie_math.specs.Polynomial.{WholePolynomial, polynomial_of}
 use Rattle.lie_geometry.specs.Coordinates.{Space, Coordinate}
-use Rattle.lie_ring.specs.Entries.{entries}
 use Rattle.lie_gram.specs.Terms.{equation_of}
 use Rattle.lie_gram.specs.Leads.{lead_of}
 use Rattle.lie_gram.specs.Files.{equation_at}
-use Rattle.lie_jet.proofs.TotalParts.{entries_same}
 
 pub equation_is : (S : Space) (names text : List ℕ) (ts : List (Monomial × ℤ)) (lead : Option Coordinate) (diff : WholePolynomial)
     → equation_of S names text ≡ Ok ts → lead ≡ lead_of S names text → diff ≡ polynomial_of ts → equation_at S names text ≡ Ok (record { lead = lead; diff = diff })

@@ -1,5 +1,5 @@
 -- The parts of the field of a short text are within the limits, and so are parts divided by a number.
-use Rattle.std.specs.Prelude.{ℕ, zero, suc, ◌+◌, ◌*◌, ◌/◌, ◌≡◌, ◌≤◌, ◌==◌, ◌&&◌, Bool, true, false, cond, List, [], ◌∷◌, length, ℤ, pos, ◌*ℤ◌, unsigned_abs, if◌then◌else◌, refl}
+use Rattle.std.specs.Prelude.{ℕ, zero, suc, ◌+◌, ◌*◌, ◌/◌, ◌^◌, ◌≡◌, ◌<◌, ◌≤◌, ◌==◌, ◌&&◌, Bool, true, false, cond, List, [], ◌∷◌, length, ℤ, pos, ◌*ℤ◌, unsigned_abs, if◌then◌else◌, refl}
 use Rattle.std.specs.BTreeMap.{BTreeMap}
 use Rattle.std.specs.Global.{Vec}
 use Rattle.std.specs.List.{AllByRecursion as Every}
@@ -8,8 +8,8 @@ use Rattle.std.proofs.Common.{sym, ap₂, subst, arith}
 use Rattle.std.proofs.lemmas.Int.{unsigned_abs-mul}
 use Rattle.lie_math.specs.Limits.{IsWithinLimits, absolutes, absolute}
 use Rattle.lie_math.specs.Monomial.{Monomial, monomial_cmp}
-use Rattle.lie_math.specs.Polynomial.{WholePolynomial, polynomial_of}
-use Rattle.lie_math.proofs.Limits.{IsCovered, within_covered}
+use Rattle.lie_math.specs.Polynomial.{WholePolynomial, polynomial_of, coefficient}
+use Rattle.lie_math.proofs.Limits.{IsCovered, zero_covered, length_covered}
 use Rattle.lie_poly.specs.Bulk.{IsBulkOf}
 use Rattle.lie_poly.proofs.BulkLists.{bulk_covers}
 use Rattle.lie_jet.proofs.Absolutes.{within_absolute}
@@ -62,6 +62,13 @@ multiple_no_less g z some = subst (λ n. unsigned_abs z ≤ n) (sym (unsigned_ab
 multiple_bulk : (g : ℕ) → 1 ≤ g → (es : List (Monomial × ℤ)) → IsBulkOf (absolutes es) (absolutes (times_entries g es))
 multiple_bulk g some [] = tt
 multiple_bulk g some (e ∷ es) = (refl, multiple_no_less g e.1 some, refl, multiple_bulk g some es)
+
+within_covered : (p b : WholePolynomial) → IsCovered p b → IsWithinLimits b → IsWithinLimits p
+within_covered p b c w = record {
+  coefficients = λ m. let h : unsigned_abs (coefficient p m) ≤ unsigned_abs (coefficient b m) = c.at_most m in let k : unsigned_abs (coefficient b m) < 2 ^ 127 = w.coefficients m in omega arith;
+  exponents = λ m o. w.exponents m (λ e. o (zero_covered (coefficient p m) (coefficient b m) (c.at_most m) e));
+  terms = let h : length p.list ≤ length b.list = length_covered p b c in let k : length b.list ≤ 1000000 = w.terms in omega arith;
+}
 
 pub divided_within : (g : ℕ) (es : List (Monomial × ℤ)) (p : WholePolynomial) → 1 ≤ g → times_entries g es ≡ p.list → IsWithinLimits p → IsWithinLimits (polynomial_of (absolutes es))
 unfolding absolute

@@ -1,5 +1,5 @@
 -- Steps of the readers of field texts, over plain numbers and lists.
-use Rattle.std.specs.Prelude.{ℕ, zero, suc, ◌*◌, ◌/◌, ◌≡◌, ◌≤◌, ◌==◌, Bool, true, false, List, [], ◌∷◌, ◌++◌, length, drop, ℤ, pos, ◌*ℤ◌, if◌then◌else◌, refl}
+use Rattle.std.specs.Prelude.{ℕ, zero, suc, ◌*◌, ◌/◌, ◌≡◌, ◌≤◌, ◌==◌, Bool, true, false, List, [], ◌∷◌, ◌++◌, length, take, drop, ℤ, pos, ◌*ℤ◌, if◌then◌else◌, refl}
 use Rattle.std.specs.Int.{◌∣◌}
 use Rattle.std.proofs.Common.{sym, ap, ap₂, ◌∙◌, arith}
 use Rattle.std.proofs.Math.Nat.{eq-zero_of_zero-dvd, mul-div_cancel'}
@@ -13,6 +13,7 @@ use Rattle.lie_gram.specs.FieldMeaning.{terms_over}
 use Rattle.lie_gram.specs.FieldAnswers.{content_from, times_entries}
 use Rattle.lie_jet.proofs.TotalParts.{entries_same}
 use Rattle.std.proofs.lemmas.List.{drop_all}
+use Rattle.lie_ring.proofs.Fronts.{all_taken}
 
 pub divisor_some : (g n : ℕ) → g ∣ n → 1 ≤ n → 1 ≤ g
 divisor_some zero n h some = let k : n ≡ 0 = eq-zero_of_zero-dvd h in absurd (omega arith)
@@ -37,7 +38,7 @@ times_entries_list g [] = refl
 times_entries_list g (e ∷ es) = ap₂ (λ (m : Monomial) (l : List (Monomial × ℤ)). (m, pos g *ℤ e.1) ∷ l) (plus_idl powers e.0) (times_entries_list g es)
 
 pub divided_all : (g i : ℕ) (out items fs : List (Monomial × ℤ)) (p : WholePolynomial) → times_entries g out ≡ take i items → length items ≤ i → items ≡ fs → entries (λ z. z) fs ≡ p.list → times_entries g out ≡ p.list
-divided_all g i out items fs p h le same is = h ∙ take_all items i le ∙ same ∙ sym (entries_same fs) ∙ is
+divided_all g i out items fs p h le same is = h ∙ all_taken items i le ∙ same ∙ sym (entries_same fs) ∙ is
 
 pub divided_made : (g : ℕ) (out slice : List (Monomial × ℤ)) (p q : WholePolynomial) → times_entries g out ≡ p.list → slice ≡ out → q ≡ polynomial_of slice → constant (pos g) *ᴾ q ≡ p
 divided_made g out slice p q e s is =

@@ -5,8 +5,8 @@ use Rattle.std.proofs.Common.{sym, subst, arith}
 use Rattle.lie_gram.specs.FileGrammar.{AreNames}
 use Rattle.lie_gram.specs.FileLines.{names_of}
 use Rattle.lie_gram.proofs.Blanks.{letter_range}
-use Rattle.lie_gram.proofs.FileTerms.{every-append}
 use Rattle.lie_gram.proofs.LineLaws.{names_of-is}
+use Rattle.lie_ring.proofs.Fronts.{every-append}
 
 abbrev pub AreAscii : List ℕ → Type 0
 AreAscii bytes = Every (λ b. b < 128) bytes

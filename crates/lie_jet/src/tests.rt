@@ -6,8 +6,8 @@ ghost use Rattle.lie_math.proofs.Kept.{pairs_in};
 
 use crate::derivative::raise_derivative;
 use crate::{
-    Der, Field, Jet, JetPoly, Space, SymForm, absolute_polynomial, absolute_value, jet_number, jet_of, total,
-    total_sym,
+    Der, Field, Jet, JetPoly, Space, SymForm, absolute_polynomial, absolute_value, jet_number,
+    jet_of, total, total_sym,
 };
 use lie_ring::{Mono, Polynomial, Ring, Whole};
 use std::alloc::Global;

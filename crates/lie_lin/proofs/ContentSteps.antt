@@ -4,7 +4,6 @@ use Rattle.std.specs.Int.{IsGcd}
 use Rattle.std.proofs.Common.{sym, ap, arith}
 use Rattle.std.proofs.lemmas.Nat.Gcd.{same_from_IsGcd, dvd_refl, le_of_dvd}
 use Rattle.std.proofs.Math.Nat.{eq-zero_of_zero-dvd}
-
 use Rattle.lie_math.specs.Monomial.{Monomial}
 use Rattle.lie_jet.specs.declared.derivative.Der.{Der}
 use Rattle.lie_systems.specs.Normalised.{common_divisor, common_monomial, common_factor}

@@ -10,7 +10,7 @@ use Rattle.lie_gram.proofs.FieldLimits.{divided_within}
 use Rattle.lie_gram.proofs.FieldSteps.{divided_all, divided_made}
 use Rattle.lie_gram.proofs.field_parts.divided.Goals as goal
 use Rattle.lie_jet.proofs.TotalParts.{entries_same}
-use Rattle.lie_ring.proofs.Fronts.{every_at, all_taken}
+use Rattle.lie_ring.proofs.Fronts.{every_at}
 
 pub push_divided-requires-clause-divides : goal.push_divided-requires-clause-divides
 push_divided-requires-clause-divides c =

@@ -2,8 +2,7 @@ use Rattle.std.proofs.Common.{sym, ap, ◌∙◌, ◌++◌, ◌∷◌, [], take}
 use Rattle.lie_gram.specs.FieldMeaning.{terms_over}
 use Rattle.lie_gram.proofs.FieldSteps.{terms_over-append}
 use Rattle.lie_gram.proofs.field_parts.part_of.Goals as goal
-use Rattle.lie_jet.proofs.TotalParts.{entries_same}
-use Rattle.lie_ring.proofs.Fronts.{take_more, all_taken}
+use Rattle.lie_ring.proofs.Fronts.{take_more}
 
 pub loop-term-preserved : goal.loop-term-preserved
 loop-term-preserved c =
