@@ -134,7 +134,7 @@ fn told(rt: &impl Abort, status: Status, number: u8, text: &[u8]) {
 }
 
 #[test]
-fn each_status_has_its_code_and_line(rt: HostRuntime) {
+fn faults_have_their_code_and_line(rt: HostRuntime) {
     let order = BadFile {
         line: 4,
         column: 65_536,
@@ -145,12 +145,6 @@ fn each_status_has_its_code_and_line(rt: HostRuntime) {
         column: 10,
         kind: BadKind::UnknownName,
     };
-    let past = Status::Past {
-        step: 0,
-        what: PastKind::Coefficient,
-    };
-    told(&rt, Status::Done, 0, b"");
-    told(&rt, Status::Usage, 2, b"lie: usage\n");
     told(
         &rt,
         Status::Bad(Source::File, order),
@@ -163,6 +157,16 @@ fn each_status_has_its_code_and_line(rt: HostRuntime) {
         3,
         b"lie: field: UnknownName at 1:10\n",
     );
+}
+
+#[test]
+fn each_other_status_has_its_code_and_line(rt: HostRuntime) {
+    let past = Status::Past {
+        step: 0,
+        what: PastKind::Coefficient,
+    };
+    told(&rt, Status::Done, 0, b"");
+    told(&rt, Status::Usage, 2, b"lie: usage\n");
     told(
         &rt,
         Status::Not(NotKind::LeadInside, 16),

@@ -1,19 +1,17 @@
 // The canonical text of a system.
-ghost use Rattle.std.specs.Prelude.{◌≡◌, ◌++◌, ◌∷◌, [], ◌≤◌, length, take, drop, map, codes, IfOk, OnOk, Some, None, Ok};
+ghost use Rattle.std.specs.Prelude.{◌≡◌, ◌++◌, ◌∷◌, [], ◌≤◌, length, take, drop, map, codes, IfOk, OnOk, Some, None};
 ghost use Rattle.std.specs.List.{AllByRecursion as Every, flat_map};
 ghost use Rattle.lie_math.specs.Monomial.{single};
 ghost use Rattle.lie_jet.specs.Jets.{coordinate_of, IsJet};
 ghost use Rattle.lie_gram.specs.Equations.{equation_read, system_read};
 ghost use Rattle.lie_gram.specs.CanonicalText.{names_line, polynomial_text, right_side as right_side_of, sides_text, equation_text, canonical_text};
 ghost use Rattle.lie_gram.specs.LeadsAlone.{with_leads};
-ghost use Rattle.lie_gram.specs.Reading.{Answers};
+ghost use Rattle.lie_gram.specs.FileGrammar.{IsFile};
 ghost use Rattle.lie_gram.specs.RightSides.{HasRightSide, IsPrintable, IsOfFile};
 
-use crate::fault::ReadFail;
 use crate::name_texts::{push_jet, push_text};
 use crate::printed_term::polynomial_terms;
 use crate::printing::push_sum;
-use crate::reading::read_system;
 use crate::right_side::right_side;
 use crate::system::{Equation, System};
 use lie_jet::{Jet, JetPoly, Space, jet_number};
@@ -211,24 +209,13 @@ fn canonical_bytes(alloc: Global, system: &System) -> Result<Vec<u8>, NoMemory>
 pub fn canonical(alloc: Global, system: &System) -> Result<Text, NoMemory>
     // A system is the one of some file.
     requires { IsOfFile (system_read system.now) }
-    ensures { IfOk result (λ text. text ≡ canonical_text (system_read system.now)) }
+    ensures text { IfOk result (λ text. text ≡ canonical_text (system_read system.now)) }
+    // It is a file of the system, where an equation that is a derivative alone has it as its lead.
+    ensures file { IfOk result (λ text. IsFile text (with_leads (system_read system.now))) }
 {
     let bytes = canonical_bytes(alloc, system)?;
     match Text::of(alloc, bytes.as_slice())? {
         Some(text) => Ok(text),
         None => unreachable!(),
-    }
-}
-
-/// The system that the canonical text of a system spells, as `read_system` reads it.
-pub fn read_again(alloc: Global, system: &System) -> Result<System, ReadFail>
-    // A system is the one of some file.
-    requires { IsOfFile (system_read system.now) }
-    // A text of at most 65,536 bytes is read as the system, where an equation that is a derivative alone has it as its lead, unless memory runs out.
-    ensures { length (canonical_text (system_read system.now)) ≤ 65536 → Answers system_read result (Ok (with_leads (system_read system.now))) }
-{
-    match canonical(alloc, system) {
-        Ok(text) => read_system(alloc, text.bytes()),
-        Err(NoMemory) => Err(ReadFail::NoMemory),
     }
 }

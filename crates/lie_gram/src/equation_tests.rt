@@ -22,7 +22,7 @@ fn wants_column(rt: &impl Abort, alloc: Global, equation: &[u8], column: u32, ki
 }
 
 #[test]
-fn first_faults_of_equations_have_their_columns(rt: HostRuntime) {
+fn unknown_names_have_their_columns(rt: HostRuntime) {
     let alloc = rt.alloc();
     wants_column(&rt, alloc, b"u_x = w".as_slice(), 10, BadKind::UnknownName);
     wants_column(&rt, alloc, b"x_t = 0".as_slice(), 4, BadKind::UnknownName);
@@ -36,6 +36,11 @@ fn first_faults_of_equations_have_their_columns(rt: HostRuntime) {
         4,
         BadKind::UnknownName,
     );
+}
+
+#[test]
+fn numbers_past_the_limit_have_their_columns(rt: HostRuntime) {
+    let alloc = rt.alloc();
     wants_column(
         &rt,
         alloc,
@@ -71,6 +76,11 @@ fn first_faults_of_equations_have_their_columns(rt: HostRuntime) {
         4,
         BadKind::Number,
     );
+}
+
+#[test]
+fn exponents_past_the_limit_have_their_columns(rt: HostRuntime) {
+    let alloc = rt.alloc();
     wants_column(&rt, alloc, b"u_x = u^33".as_slice(), 10, BadKind::Exponent);
     wants_column(&rt, alloc, b"u^0 = 0".as_slice(), 4, BadKind::Exponent);
     wants_column(&rt, alloc, b"u^32*u ? = 0".as_slice(), 9, BadKind::Exponent);
@@ -88,6 +98,18 @@ fn first_faults_of_equations_have_their_columns(rt: HostRuntime) {
         8,
         BadKind::Exponent,
     );
+    wants_column(
+        &rt,
+        alloc,
+        b"u_tx = u_xt^33".as_slice(),
+        11,
+        BadKind::Exponent,
+    );
+}
+
+#[test]
+fn orders_past_the_limit_have_their_columns(rt: HostRuntime) {
+    let alloc = rt.alloc();
     wants_column(&rt, alloc, b"u_xxxxxxx = 0".as_slice(), 4, BadKind::Order);
     wants_column(&rt, alloc, b"u = v_ttttttt".as_slice(), 8, BadKind::Order);
     wants_column(
@@ -97,6 +119,11 @@ fn first_faults_of_equations_have_their_columns(rt: HostRuntime) {
         6,
         BadKind::Order,
     );
+}
+
+#[test]
+fn bad_syntax_has_its_column(rt: HostRuntime) {
+    let alloc = rt.alloc();
     wants_column(&rt, alloc, b"u_ = 0".as_slice(), 6, BadKind::Syntax);
     wants_column(&rt, alloc, b"w_ = 0".as_slice(), 6, BadKind::Syntax);
     wants_column(&rt, alloc, b"u_x".as_slice(), 7, BadKind::Syntax);
@@ -114,11 +141,4 @@ fn first_faults_of_equations_have_their_columns(rt: HostRuntime) {
     wants_column(&rt, alloc, b"x_ = 0".as_slice(), 6, BadKind::Syntax);
     wants_column(&rt, alloc, b"u_x + 2 x = 0".as_slice(), 12, BadKind::Syntax);
     wants_column(&rt, alloc, b"2*u_x^2^3 = 0".as_slice(), 11, BadKind::Syntax);
-    wants_column(
-        &rt,
-        alloc,
-        b"u_tx = u_xt^33".as_slice(),
-        11,
-        BadKind::Exponent,
-    );
 }

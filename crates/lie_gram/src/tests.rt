@@ -36,7 +36,7 @@ pub fn wants_fault(
 }
 
 #[test]
-fn first_faults_of_files_have_their_places(rt: HostRuntime) {
+fn faults_of_the_header_have_their_places(rt: HostRuntime) {
     let alloc = rt.alloc();
     wants_fault(&rt, alloc, b"".as_slice(), 1, 1, BadKind::Header);
     wants_fault(&rt, alloc, b"# c\n".as_slice(), 1, 1, BadKind::Header);
@@ -44,6 +44,11 @@ fn first_faults_of_files_have_their_places(rt: HostRuntime) {
     wants_fault(&rt, alloc, b" lie\n".as_slice(), 1, 2, BadKind::Header);
     wants_fault(&rt, alloc, b"\nlie 1 1\n".as_slice(), 2, 1, BadKind::Header);
     wants_fault(&rt, alloc, b"li".as_slice(), 1, 1, BadKind::Header);
+}
+
+#[test]
+fn unknown_words_have_their_places(rt: HostRuntime) {
+    let alloc = rt.alloc();
     wants_fault(
         &rt,
         alloc,
@@ -76,6 +81,11 @@ fn first_faults_of_files_have_their_places(rt: HostRuntime) {
         1,
         BadKind::UnknownWord,
     );
+}
+
+#[test]
+fn unknown_words_at_the_end_have_their_places(rt: HostRuntime) {
+    let alloc = rt.alloc();
     wants_fault(
         &rt,
         alloc,
@@ -92,6 +102,19 @@ fn first_faults_of_files_have_their_places(rt: HostRuntime) {
         2,
         BadKind::UnknownWord,
     );
+    wants_fault(
+        &rt,
+        alloc,
+        b"lie 1\nvars x t\ndeps u v\neq u_x = 0\nend\n  # c\nlie 1\n".as_slice(),
+        7,
+        1,
+        BadKind::UnknownWord,
+    );
+}
+
+#[test]
+fn bad_names_have_their_places(rt: HostRuntime) {
+    let alloc = rt.alloc();
     wants_fault(
         &rt,
         alloc,
@@ -124,6 +147,11 @@ fn first_faults_of_files_have_their_places(rt: HostRuntime) {
         8,
         BadKind::NameBad,
     );
+}
+
+#[test]
+fn bad_names_among_others_have_their_places(rt: HostRuntime) {
+    let alloc = rt.alloc();
     wants_fault(
         &rt,
         alloc,
@@ -132,6 +160,19 @@ fn first_faults_of_files_have_their_places(rt: HostRuntime) {
         6,
         BadKind::NameBad,
     );
+    wants_fault(
+        &rt,
+        alloc,
+        b"lie 1\nvars a b c d aa\n".as_slice(),
+        2,
+        14,
+        BadKind::NameBad,
+    );
+}
+
+#[test]
+fn names_twice_have_their_places(rt: HostRuntime) {
+    let alloc = rt.alloc();
     wants_fault(
         &rt,
         alloc,
@@ -156,6 +197,11 @@ fn first_faults_of_files_have_their_places(rt: HostRuntime) {
         10,
         BadKind::NameTwice,
     );
+}
+
+#[test]
+fn names_past_the_limit_have_their_places(rt: HostRuntime) {
+    let alloc = rt.alloc();
     wants_fault(
         &rt,
         alloc,
@@ -180,14 +226,11 @@ fn first_faults_of_files_have_their_places(rt: HostRuntime) {
         14,
         BadKind::TooManyNames,
     );
-    wants_fault(
-        &rt,
-        alloc,
-        b"lie 1\nvars a b c d aa\n".as_slice(),
-        2,
-        14,
-        BadKind::NameBad,
-    );
+}
+
+#[test]
+fn bad_syntax_of_lines_has_its_place(rt: HostRuntime) {
+    let alloc = rt.alloc();
     wants_fault(
         &rt,
         alloc,
@@ -220,6 +263,11 @@ fn first_faults_of_files_have_their_places(rt: HostRuntime) {
         5,
         BadKind::Syntax,
     );
+}
+
+#[test]
+fn bad_syntax_at_the_end_has_its_place(rt: HostRuntime) {
+    let alloc = rt.alloc();
     wants_fault(
         &rt,
         alloc,
@@ -228,6 +276,11 @@ fn first_faults_of_files_have_their_places(rt: HostRuntime) {
         6,
         BadKind::Syntax,
     );
+}
+
+#[test]
+fn missing_ends_have_their_places(rt: HostRuntime) {
+    let alloc = rt.alloc();
     wants_fault(
         &rt,
         alloc,
@@ -261,6 +314,11 @@ fn first_faults_of_files_have_their_places(rt: HostRuntime) {
         1,
         BadKind::EndMissing,
     );
+}
+
+#[test]
+fn bytes_that_are_not_allowed_have_their_places(rt: HostRuntime) {
+    let alloc = rt.alloc();
     wants_fault(
         &rt,
         alloc,
@@ -293,13 +351,5 @@ fn first_faults_of_files_have_their_places(rt: HostRuntime) {
         1,
         9,
         BadKind::NotAscii,
-    );
-    wants_fault(
-        &rt,
-        alloc,
-        b"lie 1\nvars x t\ndeps u v\neq u_x = 0\nend\n  # c\nlie 1\n".as_slice(),
-        7,
-        1,
-        BadKind::UnknownWord,
     );
 }
