@@ -1,6 +1,6 @@
 -- Rules with the absolute values of all coefficients, and reduction by them.
 use Rattle.std.specs.Prelude.{◌≡◌, ℕ, ◌+◌, ◌<◌, List, [], ◌∷◌, ◌++◌, length, take, get_or, Bool, true, pos, unsigned_abs, if◌then◌else◌}
-use Rattle.std.proofs.Common.{refl, sym, ap, ap₂, subst, ◌∙◌, arith}
+use Rattle.std.proofs.Common.{refl, sym, ap, ap₂, subst, ◌∙◌}
 use Rattle.lie_math.proofs.Integer.{unsigned_abs_zero}
 use Rattle.lie_math.specs.Limits.{absolute}
 use Rattle.lie_math.specs.Polynomial.{WholePolynomial}
@@ -14,7 +14,7 @@ use Rattle.std.specs.List.{AllByRecursion as Every}
 use Rattle.lie_invar.specs.Bulks.{absolute_equation, absolute_equations, reduction_bulk_by}
 use Rattle.lie_invar.specs.Reductions.{CanReduce, IsAbsoluteRule}
 use Rattle.lie_jet.proofs.Absolutes.{absolute_twice}
-use Rattle.lie_ring.proofs.Fronts.{all_taken, take_more}
+use Rattle.lie_ring.proofs.Fronts.{take_more}
 
 -- the second rules are the first with absolute values, one by one
 abbrev pub AreAbsoluteRules : List LeadRule → List LeadRule → Type 0

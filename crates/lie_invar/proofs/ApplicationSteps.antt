@@ -16,12 +16,13 @@ use Rattle.lie_ring.specs.Causes.{IsCause}
 use Rattle.lie_ring.specs.declared.failures.PolyFail.{PolyFail}
 use Rattle.lie_poly.proofs.SumSteps.{cause_covered}
 use Rattle.lie_jet.proofs.TotalSteps.{size_times}
-use Rattle.lie_prolong.proofs.Absolutes.{IsBounded, bounded_plain, bounded_covered, bounded_absolute, absolute_bounded, bounded_sum, bounded_none, bounded_signed, absolute-nonneg}
+use Rattle.lie_prolong.proofs.Absolutes.{bounded_signed, absolute-nonneg}
 use Rattle.lie_prolong.proofs.Positive.{IsPositive, bounded_term, positive_bounded}
 use Rattle.lie_invar.specs.Applications.{sides, applied_to, sizes_of}
 use Rattle.lie_invar.proofs.PowerSteps.{times_one, absolute_proper, absolute_plain}
-use Rattle.lie_invar.proofs.Products.{times-none, bounded_times, bounded_itself, cause_times}
+use Rattle.lie_invar.proofs.Products.{times-none, bounded_times, cause_times}
 use Rattle.lie_ring.proofs.Fronts.{take_more}
+use Rattle.lie_jet.proofs.FormBounds.{IsBound, absolute_bound, covered_absolute, none_bound, plain_bound, sum_bound}
 
 pub right_none : (p q : WholePolynomial) → q ≡ 0ᴾ → p +ᴾ q ≡ p
 right_none p q e = ap (λ x. p +ᴾ x) e ∙ plus_comm terms p 0ᴾ ∙ plus_idl terms p
@@ -48,19 +49,19 @@ partial_is_positive : (v : ℕ) → IsPositive (partial v)
 partial_is_positive v = record {
   plus = partial-+ᴾ v;
   nothing = partial-0ᴾ v;
-  on_term = λ m c. subst₂ IsBounded (sym (partial-term v m c)) (ap (term (lower v m)) (size_times c (exponent m v)) ∙ sym (partial-term v m (pos (unsigned_abs c)))) (bounded_term (lower v m) (c *ℤ pos (exponent m v)));
+  on_term = λ m c. subst₂ IsBound (sym (partial-term v m c)) (ap (term (lower v m)) (size_times c (exponent m v)) ∙ sym (partial-term v m (pos (unsigned_abs c)))) (bounded_term (lower v m) (c *ℤ pos (exponent m v)));
 }
 
 abbrev pub bulk_sides : ℕ → ℤ → WholePolynomial → WholePolynomial
 bulk_sides w c R = sides w (pos (unsigned_abs c)) (pos 1) (absolute R)
 
-sides_bounded : (w : ℕ) (c s : ℤ) (R : WholePolynomial) → unsigned_abs s ≡ 1 → IsBounded (sides w c s R) (bulk_sides w c R)
+sides_bounded : (w : ℕ) (c s : ℤ) (R : WholePolynomial) → unsigned_abs s ≡ 1 → IsBound (sides w c s R) (bulk_sides w c R)
 sides_bounded w c s R u =
-    bounded_sum (constant c *ᴾ variable w) (constant s *ᴾ R) (constant (pos (unsigned_abs c)) *ᴾ variable w) (constant (pos 1) *ᴾ absolute R)
+    sum_bound (constant c *ᴾ variable w) (constant s *ᴾ R) (constant (pos (unsigned_abs c)) *ᴾ variable w) (constant (pos 1) *ᴾ absolute R)
     (bounded_times (constant c) (variable w) (constant (pos (unsigned_abs c))) (variable w) (bounded_term unit c) (bounded_term (single w) (pos 1)))
-    (subst (IsBounded (constant s *ᴾ R)) (sym (one-*ᴾ (absolute R))) (bounded_signed s R (absolute R) u (bounded_absolute R)))
+    (subst (IsBound (constant s *ᴾ R)) (sym (one-*ᴾ (absolute R))) (bounded_signed s R (absolute R) u (absolute_bound R)))
 
-pub slope_bounded : (v w : ℕ) (c s : ℤ) (R : WholePolynomial) → unsigned_abs s ≡ 1 → IsBounded (partial v (sides w c s R)) (partial v (bulk_sides w c R))
+pub slope_bounded : (v w : ℕ) (c s : ℤ) (R : WholePolynomial) → unsigned_abs s ≡ 1 → IsBound (partial v (sides w c s R)) (partial v (bulk_sides w c R))
 slope_bounded v w c s R u = positive_bounded (partial_is_positive v) (sides w c s R) (bulk_sides w c R) (sides_bounded w c s R u)
 
 -- ---- causes
@@ -73,18 +74,18 @@ derive_cause fail v w c R n = subst (IsCause fail) (bulk_elsewhere v w c R n)
 pub scale_cause : (fail : PolyFail) (v w : ℕ) (c s : ℤ) (R d : WholePolynomial) → ¬ (v ≡ w) → unsigned_abs s ≡ 1 → d ≡ partial v R → IsCause fail (constant (pos (unsigned_abs s)) *ᴾ absolute d) → IsCause fail (partial v (bulk_sides w c R))
 scale_cause fail v w c s R d n u e h =
     subst (IsCause fail) (bulk_elsewhere v w c R n)
-    (cause_covered fail (absolute d) (partial v (absolute R)) (bounded_covered _ _ (absolute_bounded d (partial v (absolute R)) (subst (λ p. IsBounded p (partial v (absolute R))) (sym e) (positive_bounded (partial_is_positive v) R (absolute R) (bounded_absolute R)))))
+    (cause_covered fail (absolute d) (partial v (absolute R)) ((covered_absolute d (partial v (absolute R)) (subst (λ p. IsBound p (partial v (absolute R))) (sym e) (positive_bounded (partial_is_positive v) R (absolute R) (absolute_bound R)))).covered)
     (subst (IsCause fail) (ap (λ k. constant (pos k) *ᴾ absolute d) u ∙ one-*ᴾ (absolute d)) h))
 
 pub slope_cause : (fail : PolyFail) (v w : ℕ) (c s : ℤ) (R k : WholePolynomial) → unsigned_abs s ≡ 1 → ¬ (k ≡ 0ᴾ) → IsCause fail (partial v (bulk_sides w c R)) → IsCause fail (absolute k *ᴾ partial v (bulk_sides w c R))
 slope_cause fail v w c s R k u n h =
     subst (IsCause fail) (*ᴾ_comm (partial v (bulk_sides w c R)) (absolute k))
-    (cause_times fail (partial v (bulk_sides w c R)) (absolute k) (bounded_plain _ _ (slope_bounded v w c s R u)) (absolute_proper k n) h)
+    (cause_times fail (partial v (bulk_sides w c R)) (absolute k) ((slope_bounded v w c s R u).plain) (absolute_proper k n) h)
 
 pub part_cause : (fail : PolyFail) (v w : ℕ) (c s : ℤ) (R k d : WholePolynomial) → unsigned_abs s ≡ 1 → d ≡ partial v (sides w c s R) → IsCause fail (absolute k *ᴾ absolute d) → IsCause fail (absolute k *ᴾ partial v (bulk_sides w c R))
 part_cause fail v w c s R k d u e h =
     cause_covered fail (absolute k *ᴾ absolute d) _
-    (bounded_covered _ _ (bounded_times (absolute k) (absolute d) (absolute k) (partial v (bulk_sides w c R)) (bounded_itself (absolute k) (absolute_plain k)) (absolute_bounded d _ (subst (λ p. IsBounded p (partial v (bulk_sides w c R))) (sym e) (slope_bounded v w c s R u))))) h
+    ((bounded_times (absolute k) (absolute d) (absolute k) (partial v (bulk_sides w c R)) (plain_bound (absolute k) (absolute_plain k)) (covered_absolute d _ (subst (λ p. IsBound p (partial v (bulk_sides w c R))) (sym e) (slope_bounded v w c s R u)))).covered) h
 
 pub none_part : (p k q : WholePolynomial) → k ≡ 0ᴾ → p ≡ p +ᴾ k *ᴾ q
 none_part p k q e = sym (right_none p (k *ᴾ q) (ap (λ x. x *ᴾ q) e ∙ 0ᴾ-*ᴾ q))
@@ -113,20 +114,20 @@ module _ (w : ℕ) (c s : ℤ) (R : WholePolynomial) where
   pub sized_more : (cs : List (ℕ × WholePolynomial)) (i : ℕ) (k : ℕ × WholePolynomial) → i < length cs → k ≡ get_or cs i k → sized (take (i + 1) cs) ≡ sized (take i cs) +ᴾ absolute (k.1 *ᴾ partial k.0 (sides w c s R))
   sized_more cs i k lt is = ap sized (sym (take_more cs i k lt is)) ∙ sized-append (take i cs) (k ∷ []) ∙ ap (λ q. sized (take i cs) +ᴾ q) (right_none (absolute (k.1 *ᴾ partial k.0 (sides w c s R))) 0ᴾ refl)
 
-  part_bounded : unsigned_abs s ≡ 1 → (k : ℕ × WholePolynomial) → IsBounded (absolute (k.1 *ᴾ partial k.0 (sides w c s R))) (absolute k.1 *ᴾ partial k.0 (bulk_sides w c R))
-  part_bounded u k = absolute_bounded _ _ (bounded_times k.1 (partial k.0 (sides w c s R)) (absolute k.1) (partial k.0 (bulk_sides w c R)) (bounded_absolute k.1) (slope_bounded k.0 w c s R u))
+  part_bounded : unsigned_abs s ≡ 1 → (k : ℕ × WholePolynomial) → IsBound (absolute (k.1 *ᴾ partial k.0 (sides w c s R))) (absolute k.1 *ᴾ partial k.0 (bulk_sides w c R))
+  part_bounded u k = covered_absolute _ _ (bounded_times k.1 (partial k.0 (sides w c s R)) (absolute k.1) (partial k.0 (bulk_sides w c R)) (absolute_bound k.1) (slope_bounded k.0 w c s R u))
 
-  sized_bounded : unsigned_abs s ≡ 1 → (cs : List (ℕ × WholePolynomial)) → IsBounded (sized cs) (applied_to (sizes_of cs) (bulk_sides w c R))
-  sized_bounded u [] = bounded_none
-  sized_bounded u (k ∷ cs) = bounded_sum _ _ _ _ (part_bounded u k) (sized_bounded u cs)
+  sized_bounded : unsigned_abs s ≡ 1 → (cs : List (ℕ × WholePolynomial)) → IsBound (sized cs) (applied_to (sizes_of cs) (bulk_sides w c R))
+  sized_bounded u [] = none_bound
+  sized_bounded u (k ∷ cs) = sum_bound _ _ _ _ (part_bounded u k) (sized_bounded u cs)
 
   pub sized_cause : unsigned_abs s ≡ 1 → (fail : PolyFail) (cs : List (ℕ × WholePolynomial)) (made : WholePolynomial) → made ≡ sized cs → IsCause fail made → IsCause fail (applied_to (sizes_of cs) (bulk_sides w c R))
-  sized_cause u fail cs made e h = cause_covered fail (sized cs) _ (bounded_covered _ _ (sized_bounded u cs)) (subst (IsCause fail) e h)
+  sized_cause u fail cs made e h = cause_covered fail (sized cs) _ ((sized_bounded u cs).covered) (subst (IsCause fail) e h)
 
   part_covered : unsigned_abs s ≡ 1 → (cs : List (ℕ × WholePolynomial)) (i : ℕ) (k : ℕ × WholePolynomial) → i < length cs → k ≡ get_or cs i k → IsCovered (absolute k.1 *ᴾ partial k.0 (bulk_sides w c R)) (applied_to (sizes_of cs) (bulk_sides w c R))
   part_covered u [] i k lt is = absurd (omega arith)
-  part_covered u (x ∷ cs) zero k lt is = subst (λ (y : ℕ × WholePolynomial). IsCovered (absolute y.1 *ᴾ partial y.0 (bulk_sides w c R)) (applied_to (sizes_of (x ∷ cs)) (bulk_sides w c R))) (sym is) (covered_first _ _ (bounded_plain _ _ (part_bounded u x)) (bounded_plain _ _ (sized_bounded u cs)))
-  part_covered u (x ∷ cs) (suc i) k lt is = covered_trans _ _ _ (part_covered u cs i k (omega arith) is) (covered_second _ _ (bounded_plain _ _ (part_bounded u x)) (bounded_plain _ _ (sized_bounded u cs)))
+  part_covered u (x ∷ cs) zero k lt is = subst (λ (y : ℕ × WholePolynomial). IsCovered (absolute y.1 *ᴾ partial y.0 (bulk_sides w c R)) (applied_to (sizes_of (x ∷ cs)) (bulk_sides w c R))) (sym is) (covered_first _ _ ((part_bounded u x).plain) ((sized_bounded u cs).plain))
+  part_covered u (x ∷ cs) (suc i) k lt is = covered_trans _ _ _ (part_covered u cs i k (omega arith) is) (covered_second _ _ ((part_bounded u x).plain) ((sized_bounded u cs).plain))
 
   pub part_of_all : unsigned_abs s ≡ 1 → (fail : PolyFail) (cs : List (ℕ × WholePolynomial)) (i : ℕ) (k : ℕ × WholePolynomial) → i < length cs → k ≡ get_or cs i k → IsCause fail (absolute k.1 *ᴾ partial k.0 (bulk_sides w c R)) → IsCause fail (applied_to (sizes_of cs) (bulk_sides w c R))
   part_of_all u fail cs i k lt is = cause_covered fail _ _ (part_covered u cs i k lt is)

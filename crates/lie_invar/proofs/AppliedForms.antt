@@ -21,9 +21,9 @@ use Rattle.lie_jet.specs.Derivatives.{derivative_of, derivative_terms}
 use Rattle.lie_jet.specs.FormLimits.{IsCoefficientCause}
 use Rattle.lie_jet.specs.declared.derivative.Der.{Der}
 use Rattle.lie_jet.proofs.DerivativeLists.{length_map}
-use Rattle.lie_jet.proofs.FormBounds.{coefficient_absolute, IsBound, plain_bound, absolute_bound, at, IsFormBound, IsPlain, cause_bound, form_trans, form_plain, form_sum, form_one, form_first, over_bound, fewer_bound, over_entries, entries_bound, front_bound, sizes_of, list_sizes, form_sizes, sizes_bound}
+use Rattle.lie_jet.proofs.FormBounds.{coefficient_absolute, IsBound, plain_bound, absolute_bound, at, IsFormBound, IsPlain, cause_bound, form_trans, form_plain, form_sum, form_one, form_first, over_bound, fewer_bound, over_entries, entries_bound, front_bound, list_sizes, form_sizes, sizes_bound}
 use Rattle.lie_jet.proofs.FormSteps.{part_cause, put_cause, entries_step, over_sizes}
-use Rattle.lie_invar.specs.AppliedForms.{applied_forms, applied_sizes}
+use Rattle.lie_invar.specs.AppliedForms.{applied_sizes}
 use Rattle.lie_invar.proofs.Bounds.{product_bound, partial_bound}
 use Rattle.lie_invar.proofs.Products.{nonneg_times, cause_times}
 use Rattle.lie_ring.proofs.Fronts.{all_taken}

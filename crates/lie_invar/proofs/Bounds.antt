@@ -8,15 +8,11 @@ use Rattle.lie_math.specs.Polynomial.{WholePolynomial, terms, polynomial_of, ◌
 use Rattle.lie_math.proofs.Limits.{nonneg_absolutes}
 use Rattle.lie_math.proofs.TermWise.{derived_list, polynomial_of-derived, absolutes-derived}
 use Rattle.lie_poly.proofs.BulkLists.{bulk_covers, bulk_absolutes}
-use Rattle.lie_jet.proofs.FormBounds.{IsBound}
-use Rattle.lie_prolong.proofs.Absolutes.{IsBounded, bounded_covered, bounded_plain, bounded_absolute}
+use Rattle.lie_jet.proofs.FormBounds.{IsBound, absolute_bound}
 use Rattle.lie_invar.proofs.Products.{bounded_times}
 
-pub bound_of : (p b : WholePolynomial) → IsBounded p b → IsBound p b
-bound_of p b h = record { covered = bounded_covered p b h; plain = bounded_plain p b h }
-
 pub product_bound : (p q : WholePolynomial) → IsBound (p *ᴾ q) (absolute p *ᴾ absolute q)
-product_bound p q = bound_of _ _ (bounded_times p q (absolute p) (absolute q) (bounded_absolute p) (bounded_absolute q))
+product_bound p q = (bounded_times p q (absolute p) (absolute q) (absolute_bound p) (absolute_bound q))
 
 pub partial_bound : (w : ℕ) (p : WholePolynomial) → IsBound (partial w p) (partial w (absolute p))
 unfolding absolute

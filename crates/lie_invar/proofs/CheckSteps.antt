@@ -20,7 +20,7 @@ use Rattle.lie_solved.specs.SolvedForms.{solved_equation, solved_equations}
 use Rattle.lie_invar.specs.Actions.{coefficient, application, reduction, AreActionsWithin, IsActionCause}
 use Rattle.lie_invar.specs.Applications.{IsCoefficientCause}
 use Rattle.lie_invar.specs.Bulks.{application_bulk, reduction_bulk}
-use Rattle.lie_invar.specs.Verdicts.{remainder, IsFirstRemainder, IsVerdict, next_verdict}
+use Rattle.lie_invar.specs.Verdicts.{remainder, IsFirstRemainder, next_verdict}
 use Rattle.lie_invar.specs.declared.verdict.Verdict.{Verdict}
 use Rattle.lie_invar.specs.declared.verdict.Verdict.TheVariants.{Yes, No}
 use Rattle.lie_invar.proofs.AppliedForms.{at_place}

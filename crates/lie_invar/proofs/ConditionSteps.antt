@@ -18,10 +18,9 @@ use Rattle.lie_solved.specs.declared.solved.LeadRule.{LeadRule}
 use Rattle.lie_solved.specs.SolvedForms.{solved_equation, solved_equations}
 use Rattle.lie_invar.specs.AppliedForms.{IsCoefficientPast}
 use Rattle.lie_invar.specs.Bulks.{absolute_equation, absolute_equations}
-use Rattle.lie_invar.specs.Conditions.{condition_of, conditions_of, IsConditionWithin, IsConditionCause, AreFormActionsWithin, IsFormActionCause}
+use Rattle.lie_invar.specs.Conditions.{condition_of, IsConditionWithin, IsConditionCause, AreFormActionsWithin, IsFormActionCause}
 use Rattle.lie_invar.specs.Openings.{coefficient, application, reduction}
 use Rattle.lie_invar.specs.SymbolicBulks.{symbolic_application_bulk, symbolic_reduction_bulk}
-use Rattle.lie_ring.proofs.Fronts.{all_taken}
 
 -- the rule with absolute values at a place
 pub sized_at : (S : Space) (rules sized : List LeadRule) (i : ℕ) (r q : LeadRule) → solved_equations S sized ≡ absolute_equations (solved_equations S rules) → i < length rules → r ≡ get_or rules i r → q ≡ get_or sized i q → solved_equation S q ≡ absolute_equation (solved_equation S r)

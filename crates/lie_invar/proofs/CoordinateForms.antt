@@ -1,7 +1,7 @@
 -- The forms at all coordinates, put together from the unknowns and from the prolonged coefficients.
-use Rattle.std.specs.Prelude.{◌≡◌, ℕ, zero, suc, ◌+◌, ◌-◌, ◌<◌, ◌≤◌, ◌^◌, true, List, [], ◌++◌, length, map, ltb, cond, unsigned_abs}
+use Rattle.std.specs.Prelude.{◌≡◌, ℕ, zero, suc, ◌+◌, ◌-◌, ◌<◌, ◌≤◌, ◌^◌, true, List, [], ◌++◌, length, map, ltb, unsigned_abs}
 use Rattle.std.specs.List.{range_with_len, Any}
-use Rattle.std.proofs.Common.{refl, sym, ap, subst, ◌∙◌, arith, lt-ltb, ltb-true, ltb-false, length-append, get_or, Bool, false}
+use Rattle.std.proofs.Common.{refl, sym, ap, subst, ◌∙◌, arith, ltb-true, ltb-false, length-append, get_or, Bool, false}
 use Rattle.std.proofs.lemmas.List.{get_or_append_left, get_or-append_right, get_or-map, length-map}
 use Rattle.std.proofs.lemmas.List.FromFn.{length-map-range_with_len, get_or-map-range_with_len}
 use Rattle.lie_math.specs.Counts.{order}
@@ -9,7 +9,7 @@ use Rattle.lie_math.specs.FiniteSum as finite
 use Rattle.lie_math.specs.Limits.{HasLowExponents}
 use Rattle.lie_math.specs.LinearForm.{LinearForm, no_form}
 use Rattle.lie_math.specs.Monomial.{exponent}
-use Rattle.lie_geometry.specs.Coordinates.{Space, independent, coordinate, coordinates_up_to, jets_below, seek, nth_of_order}
+use Rattle.lie_geometry.specs.Coordinates.{Space, coordinate, coordinates_up_to, jets_below}
 use Rattle.lie_geometry.specs.SymbolicProlongation.{unknown, symbolic_coefficient_at}
 use Rattle.lie_systems.specs.Triples.{Triple, triples}
 use Rattle.lie_ring.specs.declared.failures.PastKind.TheVariants.{Coefficient, Exponent, Terms, Order, Unknowns, Width}

@@ -1,13 +1,11 @@
 -- The difference of an equation in solved form, whose right side does not have the lead, with absolute values.
 use Rattle.std.specs.Prelude.{◌≡◌, ℕ, Bool, true, false, cond, ℤ, pos, negsuc, ◌+ℤ◌, unsigned_abs}
-use Rattle.std.specs.List.{AllByRecursion as Every}
 use Rattle.std.specs.Ordering.{eq_by_cmp}
-use Rattle.std.specs.Cmp.{tied_itself}
-use Rattle.std.proofs.Common.{refl, sym, ap, ap₂, ◌∙◌, arith, is_eq, true≢false}
+use Rattle.std.proofs.Common.{refl, sym, ap, ap₂, ◌∙◌, arith, true≢false}
 use borrow.Author.Differences.{ints}
 use Rattle.lie_math.specs.FiniteSumLaws.{ext, value-none, value-plus, value-term}
 use Rattle.lie_math.specs.Limits.{absolute}
-use Rattle.lie_math.specs.Monomial.{Monomial, monomial_cmp, exponent, single, powers}
+use Rattle.lie_math.specs.Monomial.{Monomial, monomial_cmp, single}
 use Rattle.lie_math.specs.Polynomial.{WholePolynomial, terms, coefficient, constant, variable, negᴾ, ◌+ᴾ◌, ◌*ᴾ◌}
 use Rattle.lie_math.specs.PolynomialRing.{negᴾ_l, one-*ᴾ}
 use Rattle.lie_math.specs.Variables.{FreeOf}

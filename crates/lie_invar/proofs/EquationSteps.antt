@@ -1,7 +1,6 @@
 -- Equations that are added part by part, and the number of their triples.
 use Rattle.std.specs.Prelude.{◌≡◌, ℕ, zero, suc, ◌+◌, ◌<◌, ◌≤◌, ◌⊎◌, Bool, true, false, cond, List, [], ◌∷◌, ◌++◌, length, take, get_or, slice_index_or}
-use Rattle.std.proofs.Common.{Less, refl, sym, ap, subst, ◌∙◌, arith, inl, inr, add-one, true≢false, is_eq}
-use Rattle.std.proofs.Math.Seq.{take-suc}
+use Rattle.std.proofs.Common.{Less, refl, sym, ap, subst, ◌∙◌, arith, inl, inr, true≢false, is_eq}
 use Rattle.std.proofs.lemmas.List.{get_or-map, length-map}
 use Rattle.std.specs.List.{AllByRecursion as Every, Any, Contains}
 use Rattle.std.specs.List.Sorted.{IsStrictlySortedBy}

@@ -1,7 +1,6 @@
 -- Products over lists: what is met on the way, factor by factor, is a cause of the whole.
 use Rattle.std.specs.Prelude.{◌≡◌, ℕ, zero, suc, ◌+◌, ◌<◌, List, [], ◌∷◌, ◌++◌, length, take, drop, get_or, pos}
-use Rattle.std.proofs.Common.{refl, sym, ap, subst, ◌∙◌, arith, add-one}
-use Rattle.std.proofs.Math.Seq.{take-suc}
+use Rattle.std.proofs.Common.{refl, sym, ap, subst, ◌∙◌, arith}
 use Rattle.std.specs.List.{AllByRecursion as Every}
 use Rattle.lie_math.specs.Limits.{absolute}
 use Rattle.lie_math.specs.Polynomial.{WholePolynomial, constant, 0ᴾ, ◌*ᴾ◌}
@@ -10,11 +9,11 @@ use Rattle.lie_math.proofs.ZeroDivisors.{no_zero_divisors}
 use Rattle.lie_ring.specs.Causes.{IsCause}
 use Rattle.lie_ring.specs.declared.failures.PolyFail.{PolyFail}
 use Rattle.lie_poly.proofs.SumSteps.{cause_covered}
-use Rattle.lie_prolong.proofs.Absolutes.{IsBounded, bounded_plain, bounded_covered, bounded_absolute, absolute_bounded}
 use Rattle.lie_solved.proofs.Variables.{every_back, every_front}
-use Rattle.lie_invar.proofs.Products.{IsProper, bounded_itself, bounded_times, nonneg_times, proper_one, proper_times, cause_times}
+use Rattle.lie_invar.proofs.Products.{IsProper, bounded_times, nonneg_times, proper_one, proper_times, cause_times}
 use Rattle.lie_invar.proofs.PowerSteps.{times_one}
 use Rattle.lie_ring.proofs.Fronts.{take_more}
+use Rattle.lie_jet.proofs.FormBounds.{IsBound, absolute_bound, covered_absolute, plain_bound}
 
 -- ---- lists up to a place
 pub parted_at : {X : Type 0} (xs : List X) (i : ℕ) (x : X) → i < length xs → x ≡ get_or xs i x → xs ≡ take i xs ++ x ∷ drop (suc i) xs
@@ -51,8 +50,8 @@ module _ {X : Type 0} where
   apart_product f [] h = proper_one.apart
   apart_product f (x ∷ xs) h = λ e. apart_product f xs h.1 (no_zero_divisors (f x) (product f xs) h.0 e)
 
-  pub bounded_products : (f g : X → WholePolynomial) → ((x : X) → IsBounded (f x) (g x)) → (xs : List X) → IsBounded (product f xs) (product g xs)
-  bounded_products f g h [] = bounded_itself (constant (pos 1)) proper_one.plain
+  pub bounded_products : (f g : X → WholePolynomial) → ((x : X) → IsBound (f x) (g x)) → (xs : List X) → IsBound (product f xs) (product g xs)
+  bounded_products f g h [] = plain_bound (constant (pos 1)) proper_one.plain
   bounded_products f g h (x ∷ xs) = bounded_times (f x) (product f xs) (g x) (product g xs) (h x) (bounded_products f g h xs)
 
   -- one more factor
@@ -61,13 +60,13 @@ module _ {X : Type 0} where
       e ∙ ap (λ p. p *ᴾ f x) h ∙ *ᴾ_assoc start (product f (take i xs)) (f x)
       ∙ ap (λ p. start *ᴾ p) (ap (λ p. product f (take i xs) *ᴾ p) (sym (times_one (f x))) ∙ sym (product-append f (take i xs) (x ∷ [])) ∙ ap (product f) (take_more xs i x lt is))
 
-  pub product_cause : (fail : PolyFail) (f g : X → WholePolynomial) → ((x : X) → IsBounded (f x) (g x)) → (xs : List X) (i : ℕ) (x : X) (start now : WholePolynomial) → i < length xs → x ≡ get_or xs i x → Every (λ x. IsProper (g x)) xs
+  pub product_cause : (fail : PolyFail) (f g : X → WholePolynomial) → ((x : X) → IsBound (f x) (g x)) → (xs : List X) (i : ℕ) (x : X) (start now : WholePolynomial) → i < length xs → x ≡ get_or xs i x → Every (λ x. IsProper (g x)) xs
       → now ≡ start *ᴾ product f (take i xs) → IsCause fail (absolute now *ᴾ g x) → IsCause fail (absolute start *ᴾ product g xs)
   product_cause fail f g h xs i x start now lt is proper e c =
       let P : WholePolynomial = absolute start *ᴾ product g (take i xs) in
-      let bounded : IsBounded now P = subst (λ p. IsBounded p P) (sym e) (bounded_times start (product f (take i xs)) (absolute start) (product g (take i xs)) (bounded_absolute start) (bounded_products f g h (take i xs))) in
+      let bounded : IsBound now P = subst (λ p. IsBound p P) (sym e) (bounded_times start (product f (take i xs)) (absolute start) (product g (take i xs)) (absolute_bound start) (bounded_products f g h (take i xs))) in
       let rest = every_rest (λ x. IsProper (g x)) xs i x lt is proper in
       subst (IsCause fail) (*ᴾ_assoc P (g x) (product g (drop (suc i) xs)) ∙ *ᴾ_assoc (absolute start) (product g (take i xs)) (g x *ᴾ product g (drop (suc i) xs))
       ∙ ap (λ p. absolute start *ᴾ p) (sym (product-append g (take i xs) (x ∷ drop (suc i) xs)) ∙ ap (product g) (sym (parted_at xs i x lt is))))
-      (cause_times fail (P *ᴾ g x) (product g (drop (suc i) xs)) (nonneg_times P (g x) (bounded_plain now P bounded) rest.0.plain) (proper_product g (drop (suc i) xs) rest.1)
-      (cause_covered fail (absolute now *ᴾ g x) (P *ᴾ g x) (bounded_covered _ _ (bounded_times (absolute now) (g x) P (g x) (absolute_bounded now P bounded) (bounded_itself (g x) rest.0.plain))) c))
+      (cause_times fail (P *ᴾ g x) (product g (drop (suc i) xs)) (nonneg_times P (g x) (bounded.plain) rest.0.plain) (proper_product g (drop (suc i) xs) rest.1)
+      (cause_covered fail (absolute now *ᴾ g x) (P *ᴾ g x) ((bounded_times (absolute now) (g x) P (g x) (covered_absolute now P bounded) (plain_bound (g x) rest.0.plain)).covered) c))

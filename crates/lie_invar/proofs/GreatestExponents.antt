@@ -1,5 +1,5 @@
 -- The greatest exponents in terms and in polynomials, one by one; they are those of the absolute values.
-use Rattle.std.specs.Prelude.{◌≡◌, ℕ, ◌+◌, ◌<◌, List, [], ◌∷◌, ◌++◌, map, length, take, get_or, max, ℤ}
+use Rattle.std.specs.Prelude.{◌≡◌, ℕ, ◌+◌, ◌<◌, List, [], ◌∷◌, ◌++◌, length, take, get_or, max, ℤ}
 use Rattle.std.proofs.Common.{refl, sym, ap, ap₂, ◌∙◌, arith}
 use Rattle.lie_math.specs.Canonical.{sum_of_entries-append}
 use Rattle.lie_math.specs.FiniteSumLaws.{list-of}

@@ -12,11 +12,9 @@ use Rattle.lie_geometry.proofs.Numbers.{coordinate-number, count_rises}
 use Rattle.lie_geometry.proofs.NumberOrder.{order_below}
 use Rattle.lie_math.specs.Monomial.{Monomial, unit}
 use Rattle.lie_math.specs.Natural.{maxima}
-use Rattle.lie_math.specs.Polynomial.{WholePolynomial, 0ᴾ, constant, variable, ◌*ᴾ◌, ◌+ᴾ◌, negᴾ}
-use Rattle.lie_math.specs.PolynomialRing.{polynomial_ring}
+use Rattle.lie_math.specs.Polynomial.{WholePolynomial, constant, variable, ◌*ᴾ◌, negᴾ}
 use Rattle.lie_math.specs.SortedSum.{sum_of_entries}
 use Rattle.lie_math.specs.Variables.{FreeOf, IsIn}
-use Rattle.lie_math.proofs.RingSolver.{v, ◌⊕◌, ⊖, solve, listed}
 use Rattle.lie_math.proofs.Variables.{in-+ᴾ, in-*ᴾ, in-constant, in-variable, in-wider, in-bound, partial-outside}
 use Rattle.lie_math.proofs.Limits.{term_apart}
 use Rattle.lie_geometry.specs.Coordinates.{Space, number, coordinate, coordinates_up_to, order_of, Coordinate, independent, nth_of_order, seek, jets_below}

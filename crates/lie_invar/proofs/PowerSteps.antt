@@ -20,16 +20,16 @@ use Rattle.lie_poly.specs.Failures.{IsStarved}
 use Rattle.lie_poly.proofs.BulkLists.{limits_of}
 use Rattle.lie_poly.proofs.SumSteps.{cause_covered}
 use Rattle.lie_jet.proofs.Absolutes.{within_starved}
-use Rattle.lie_prolong.proofs.Absolutes.{IsBounded, absolute-nonneg, bounded_plain, bounded_covered, bounded_absolute, absolute_bounded}
+use Rattle.lie_prolong.proofs.Absolutes.{absolute-nonneg}
 use Rattle.lie_invar.specs.ReducedTerms.{power}
 use Rattle.lie_invar.proofs.Products.{IsProper, bounded_times, bounded_power, nonneg_times, proper_power, cause_times}
-use Rattle.lie_jet.proofs.FormBounds.{coefficient_absolute}
+use Rattle.lie_jet.proofs.FormBounds.{coefficient_absolute, IsBound, absolute_bound, covered_absolute}
 
 pub times_one : (p : WholePolynomial) → p *ᴾ constant (pos 1) ≡ p
 times_one p = *ᴾ_comm p (constant (pos 1)) ∙ one-*ᴾ p
 
 pub absolute_plain : (p : WholePolynomial) → IsNonNegative (absolute p)
-absolute_plain p = bounded_plain p (absolute p) (bounded_absolute p)
+absolute_plain p = (absolute_bound p).plain
 
 pub absolute_proper : (p : WholePolynomial) → ¬ (p ≡ 0ᴾ) → IsProper (absolute p)
 absolute_proper p n = record {
@@ -41,8 +41,8 @@ absolute_proper p n = record {
     zero_of n e = ap unsigned_abs e
 
 -- the absolute values of a product are bounded
-pub bounded_product : (p b q d : WholePolynomial) → IsBounded p b → IsBounded q d → IsBounded (absolute p *ᴾ absolute q) (b *ᴾ d)
-bounded_product p b q d h k = bounded_times (absolute p) (absolute q) b d (absolute_bounded p b h) (absolute_bounded q d k)
+pub bounded_product : (p b q d : WholePolynomial) → IsBound p b → IsBound q d → IsBound (absolute p *ᴾ absolute q) (b *ᴾ d)
+bounded_product p b q d h k = bounded_times (absolute p) (absolute q) b d (covered_absolute p b h) (covered_absolute q d k)
 
 -- ---- one more factor
 pub power_more : (p now next base : WholePolynomial) (i : ℕ) → next ≡ now *ᴾ base → now ≡ p *ᴾ power base i → next ≡ p *ᴾ power base (i + 1)
@@ -56,10 +56,10 @@ power_cause fail p now base i n apart h lt c =
     let b : WholePolynomial = absolute base in
     let P : WholePolynomial = absolute p *ᴾ power b i in
     let rest : ℕ = n - suc i in
-    let bounded : IsBounded now P = subst (λ x. IsBounded x P) (sym h) (bounded_times p (power base i) (absolute p) (power b i) (bounded_absolute p) (bounded_power base b (bounded_absolute base) i)) in
+    let bounded : IsBound now P = subst (λ x. IsBound x P) (sym h) (bounded_times p (power base i) (absolute p) (power b i) (absolute_bound p) (bounded_power base b (absolute_bound base) i)) in
     subst (IsCause fail) (shape (absolute p) b i rest ∙ ap (λ k. absolute p *ᴾ power b k) (whole i n lt))
-    (cause_times fail (P *ᴾ b) (power b rest) (nonneg_times P b (bounded_plain now P bounded) (absolute_plain base)) (proper_power b (absolute_proper base apart) rest)
-    (cause_covered fail (absolute now *ᴾ b) (P *ᴾ b) (bounded_covered _ _ (bounded_product now P base b bounded (bounded_absolute base))) c))
+    (cause_times fail (P *ᴾ b) (power b rest) (nonneg_times P b (bounded.plain) (absolute_plain base)) (proper_power b (absolute_proper base apart) rest)
+    (cause_covered fail (absolute now *ᴾ b) (P *ᴾ b) ((bounded_product now P base b bounded (absolute_bound base)).covered) c))
   where
     whole : (i n : ℕ) → i < n → suc i + (n - suc i) ≡ n
     whole i n lt = omega arith

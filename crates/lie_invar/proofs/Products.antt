@@ -27,18 +27,16 @@ use Rattle.lie_ring.specs.declared.failures.PolyFail.{PolyFail}
 use Rattle.lie_ring.specs.declared.failures.PolyFail.TheVariants.{Past, NoMemory}
 use Rattle.lie_poly.proofs.SumSteps.{cause_covered}
 use Rattle.lie_jet.proofs.TotalSteps.{size_times}
-use Rattle.lie_prolong.proofs.Absolutes.{IsBounded, bounded_plain, bounded_sum, bounded_none, bounded_more, bounded_negative, bounded_absolute, left_over, left_over_plain, left_over_sum, absolute-nonneg}
+use Rattle.lie_prolong.proofs.Absolutes.{bounded_more, bounded_negative, left_over, left_over_plain, left_over_sum, absolute-nonneg}
 use Rattle.lie_prolong.proofs.Positive.{IsPositive, bounded_term, positive_bounded}
+use Rattle.lie_jet.proofs.FormBounds.{IsBound, none_bound, plain_bound, sum_bound}
 
 -- ---- bounds
-pub bounded_itself : (p : WholePolynomial) → IsNonNegative p → IsBounded p p
-bounded_itself p h = subst (IsBounded p) (absolute-nonneg p h) (bounded_absolute p)
-
 times_term_is_positive : (k : Monomial) (n : ℕ) → IsPositive (λ p. p *ᴾ term k (pos n))
 times_term_is_positive k n = record {
   plus = λ p q. +ᴾ-*ᴾ p q (term k (pos n));
   nothing = 0ᴾ-*ᴾ (term k (pos n));
-  on_term = λ m c. subst₂ IsBounded (sym (term_times_term m k c (pos n))) (ap (term (m · k)) (size_times c n) ∙ sym (term_times_term m k (pos (unsigned_abs c)) (pos n))) (bounded_term (m · k) (c *ℤ pos n));
+  on_term = λ m c. subst₂ IsBound (sym (term_times_term m k c (pos n))) (ap (term (m · k)) (size_times c n) ∙ sym (term_times_term m k (pos (unsigned_abs c)) (pos n))) (bounded_term (m · k) (c *ℤ pos n));
 }
 
 negative_term : (m : Monomial) (n : ℕ) → negᴾ (term m (pos (suc n))) ≡ term m (negsuc n)
@@ -47,10 +45,10 @@ negative_term m n = term_times_term unit m (negsuc 0) (pos (suc n)) ∙ ap₂ te
     less : (n : ℕ) → negsuc 0 *ℤ pos (suc n) ≡ negsuc n
     less n = omega (arith, ints)
 
-bounded_times_term : (m : Monomial) (c : ℤ) (q d : WholePolynomial) → IsBounded q d → IsBounded (q *ᴾ term m c) (d *ᴾ term m (pos (unsigned_abs c)))
+bounded_times_term : (m : Monomial) (c : ℤ) (q d : WholePolynomial) → IsBound q d → IsBound (q *ᴾ term m c) (d *ᴾ term m (pos (unsigned_abs c)))
 bounded_times_term m (pos n) q d h = positive_bounded (times_term_is_positive m n) q d h
 bounded_times_term m (negsuc n) q d h =
-    subst (λ x. IsBounded x (d *ᴾ term m (pos (suc n)))) (moved q (term m (pos (suc n))) ∙ ap (λ t. q *ᴾ t) (negative_term m n))
+    subst (λ x. IsBound x (d *ᴾ term m (pos (suc n)))) (moved q (term m (pos (suc n))) ∙ ap (λ t. q *ᴾ t) (negative_term m n))
     (bounded_negative (q *ᴾ term m (pos (suc n))) (d *ᴾ term m (pos (suc n))) (positive_bounded (times_term_is_positive m (suc n)) q d h))
   where
     moved : (a b : WholePolynomial) → negᴾ (a *ᴾ b) ≡ a *ᴾ negᴾ b
@@ -59,24 +57,24 @@ bounded_times_term m (negsuc n) q d h =
 pub times-none : (q : WholePolynomial) → q *ᴾ 0ᴾ ≡ 0ᴾ
 times-none q = *ᴾ_comm q 0ᴾ ∙ 0ᴾ-*ᴾ q
 
-bounded_times_list : (q d : WholePolynomial) → IsBounded q d → (es : List (Monomial × ℤ)) → IsBounded (q *ᴾ polynomial_of es) (d *ᴾ polynomial_of (absolutes es))
-bounded_times_list q d h [] = subst₂ IsBounded (sym (ap (λ p. q *ᴾ p) polynomial_of-none ∙ times-none q)) (sym (ap (λ p. d *ᴾ p) polynomial_of-none ∙ times-none d)) bounded_none
-bounded_times_list q d h (e ∷ es) = subst₂ IsBounded (sym (parted q e es)) (sym (parted d (e.0, pos (unsigned_abs e.1)) (absolutes es))) (bounded_sum _ _ _ _ (bounded_times_term e.0 e.1 q d h) (bounded_times_list q d h es))
+bounded_times_list : (q d : WholePolynomial) → IsBound q d → (es : List (Monomial × ℤ)) → IsBound (q *ᴾ polynomial_of es) (d *ᴾ polynomial_of (absolutes es))
+bounded_times_list q d h [] = subst₂ IsBound (sym (ap (λ p. q *ᴾ p) polynomial_of-none ∙ times-none q)) (sym (ap (λ p. d *ᴾ p) polynomial_of-none ∙ times-none d)) none_bound
+bounded_times_list q d h (e ∷ es) = subst₂ IsBound (sym (parted q e es)) (sym (parted d (e.0, pos (unsigned_abs e.1)) (absolutes es))) (sum_bound _ _ _ _ (bounded_times_term e.0 e.1 q d h) (bounded_times_list q d h es))
   where
     parted : (q : WholePolynomial) (e : Monomial × ℤ) (es : List (Monomial × ℤ)) → q *ᴾ polynomial_of (e ∷ es) ≡ q *ᴾ term e.0 e.1 +ᴾ q *ᴾ polynomial_of es
     parted q e es = ap (λ p. q *ᴾ p) (of-cons terms e es ∙ ap (λ p. p +ᴾ polynomial_of es) (sym (term_is e.0 e.1))) ∙ *ᴾ-dist q (term e.0 e.1) (polynomial_of es)
 
-bounded_times_absolute : (q d p : WholePolynomial) → IsBounded q d → IsBounded (q *ᴾ p) (d *ᴾ absolute p)
+bounded_times_absolute : (q d p : WholePolynomial) → IsBound q d → IsBound (q *ᴾ p) (d *ᴾ absolute p)
 unfolding absolute
-bounded_times_absolute q d p h = subst (λ x. IsBounded (q *ᴾ x) (d *ᴾ polynomial_of (absolutes p.list))) (of_list terms p) (bounded_times_list q d h p.list)
+bounded_times_absolute q d p h = subst (λ x. IsBound (q *ᴾ x) (d *ᴾ polynomial_of (absolutes p.list))) (of_list terms p) (bounded_times_list q d h p.list)
 
 pub nonneg_times : (p q : WholePolynomial) → IsNonNegative p → IsNonNegative q → IsNonNegative (p *ᴾ q)
-nonneg_times p q h k = subst (λ x. IsNonNegative (p *ᴾ x)) (absolute-nonneg q k) (bounded_plain (p *ᴾ q) (p *ᴾ absolute q) (bounded_times_absolute p p q (bounded_itself p h)))
+nonneg_times p q h k = subst (λ x. IsNonNegative (p *ᴾ x)) (absolute-nonneg q k) ((bounded_times_absolute p p q (plain_bound p h)).plain)
 
-pub bounded_times : (p q b d : WholePolynomial) → IsBounded p b → IsBounded q d → IsBounded (p *ᴾ q) (b *ᴾ d)
+pub bounded_times : (p q b d : WholePolynomial) → IsBound p b → IsBound q d → IsBound (p *ᴾ q) (b *ᴾ d)
 bounded_times p q b d h k =
-    subst (IsBounded (p *ᴾ q)) (sym (*ᴾ-dist b (absolute q) (left_over q d)) ∙ ap (λ x. b *ᴾ x) (left_over_sum q d))
-    (bounded_more (p *ᴾ q) (b *ᴾ absolute q) (b *ᴾ left_over q d) (bounded_times_absolute p b q h) (nonneg_times b (left_over q d) (bounded_plain p b h) (left_over_plain q d k)))
+    subst (IsBound (p *ᴾ q)) (sym (*ᴾ-dist b (absolute q) (left_over q d)) ∙ ap (λ x. b *ᴾ x) (left_over_sum q d))
+    (bounded_more (p *ᴾ q) (b *ᴾ absolute q) (b *ᴾ left_over q d) (bounded_times_absolute p b q h) (nonneg_times b (left_over q d) (h.plain) (left_over_plain q d k)))
 
 -- ---- polynomials that are not 0 and have no negative coefficient
 pub record IsProper (p : WholePolynomial) : Type 0 where
@@ -93,8 +91,8 @@ pub proper_power : (p : WholePolynomial) → IsProper p → (n : ℕ) → IsProp
 proper_power p h zero = proper_one
 proper_power p h (suc n) = proper_times p (power p n) h (proper_power p h n)
 
-pub bounded_power : (p b : WholePolynomial) → IsBounded p b → (n : ℕ) → IsBounded (power p n) (power b n)
-bounded_power p b h zero = bounded_itself (constant (pos 1)) proper_one.plain
+pub bounded_power : (p b : WholePolynomial) → IsBound p b → (n : ℕ) → IsBound (power p n) (power b n)
+bounded_power p b h zero = plain_bound (constant (pos 1)) proper_one.plain
 bounded_power p b h (suc n) = bounded_times p (power p n) b (power b n) h (bounded_power p b h n)
 
 -- ---- what is past

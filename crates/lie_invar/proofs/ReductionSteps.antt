@@ -27,7 +27,7 @@ use Rattle.lie_ring.specs.declared.failures.PolyFail.TheVariants.{Past, NoMemory
 use Rattle.lie_poly.proofs.TermLists.{entries-append}
 use Rattle.lie_poly.proofs.TimesSteps.{entry_not_zero}
 use Rattle.lie_jet.specs.Listed.{sum_listed, bulk_listed}
-use Rattle.lie_prolong.proofs.Absolutes.{IsBounded, bounded_plain, bounded_covered, bounded_absolute, absolute_bounded, bounded_sum, bounded_none, absolute-nonneg}
+use Rattle.lie_prolong.proofs.Absolutes.{absolute-nonneg}
 use Rattle.lie_prolong.proofs.Positive.{bounded_term}
 use Rattle.lie_solved.specs.declared.solved.LeadRule.{LeadRule}
 use Rattle.lie_solved.specs.SolvedForms.{solved_equations}
@@ -39,6 +39,7 @@ use Rattle.lie_invar.proofs.Factors.{proper_product, apart_product, bounded_prod
 use Rattle.lie_invar.proofs.Products.{IsProper, times-none, bounded_times, cause_times}
 use Rattle.lie_invar.proofs.Replacing.{replaced_power, replaced_bulk, replaced_is, replaced_bulk_is, replaced_bounded, kept_proper, missing_power, missing_is, missing_absolute, absolute_constant, power_apart}
 use Rattle.lie_ring.proofs.Fronts.{take_more}
+use Rattle.lie_jet.proofs.FormBounds.{IsBound, absolute_bound, covered_absolute, none_bound, sum_bound}
 
 -- ---- terms put behind others
 pub pushed_sum : (ms ts : List (Monomial × ℤ)) (p : WholePolynomial) (new : List (Monomial × ℤ)) → new ≡ ms ++ ts → entries (λ z. z) ts ≡ p.list → sum_listed new ≡ sum_listed ms +ᴾ p
@@ -96,7 +97,7 @@ module _ (rs : List SolvedEquation) (e : ℕ → ℕ) (m : Monomial) (a : ℤ) w
       (cause_times fail A (replaced (absolute_equations rs) ps) (plain_number (missing_absolute rs e m)) (subst IsProper (replaced_bulk_is rs ps) (proper_product (replaced_bulk rs) ps (kept_proper rs ps h))) (subst (IsCause fail) same c))
     where
       plain_number : missing_powers (absolute_equations rs) e m ≡ pos (unsigned_abs (missing_powers rs e m)) → IsNonNegative (constant (pos (unsigned_abs a) *ℤ missing_powers (absolute_equations rs) e m))
-      plain_number f = subst IsNonNegative (absolute_constant (a *ℤ missing_powers rs e m) ∙ ap constant (ap pos (unsigned_abs-mul a (missing_powers rs e m)) ∙ ap (λ z. pos (unsigned_abs a) *ℤ z) (sym f))) (bounded_plain _ _ (bounded_absolute (constant (a *ℤ missing_powers rs e m))))
+      plain_number f = subst IsNonNegative (absolute_constant (a *ℤ missing_powers rs e m) ∙ ap constant (ap pos (unsigned_abs-mul a (missing_powers rs e m)) ∙ ap (λ z. pos (unsigned_abs a) *ℤ z) (sym f))) ((absolute_bound (constant (a *ℤ missing_powers rs e m))).plain)
 
   pub product_term_cause : (fail : PolyFail) (number multiple : WholePolynomial) (ps : List (ℕ × ℕ)) → ps ≡ m.list → number ≡ constant a → multiple ≡ number *ᴾ constant (missing_powers rs e m) → IsCause fail (absolute multiple *ᴾ replaced (absolute_equations rs) ps) → IsCause fail bulk
   product_term_cause fail number multiple ps l n h c =
@@ -106,11 +107,11 @@ module _ (rs : List SolvedEquation) (e : ℕ → ℕ) (m : Monomial) (a : ℤ) w
       ∙ bulk_is ps l) c
 
   -- the true term is bounded by its bulk
-  pub term_bounded : IsBounded (reduced_term rs e m a) bulk
+  pub term_bounded : IsBound (reduced_term rs e m a) bulk
   term_bounded =
       bounded_times (constant (a *ℤ missing_powers rs e m)) (replaced rs m.list) _ (replaced (absolute_equations rs) m.list)
-      (subst (λ z. IsBounded (constant (a *ℤ missing_powers rs e m)) (constant z)) (ap pos (unsigned_abs-mul a (missing_powers rs e m)) ∙ ap (λ z. pos (unsigned_abs a) *ℤ z) (sym (missing_absolute rs e m))) (bounded_term unit (a *ℤ missing_powers rs e m)))
-      (subst₂ IsBounded (replaced_is rs m.list) (replaced_bulk_is rs m.list) (bounded_products (replaced_power rs) (replaced_bulk rs) (replaced_bounded rs) m.list))
+      (subst (λ z. IsBound (constant (a *ℤ missing_powers rs e m)) (constant z)) (ap pos (unsigned_abs-mul a (missing_powers rs e m)) ∙ ap (λ z. pos (unsigned_abs a) *ℤ z) (sym (missing_absolute rs e m))) (bounded_term unit (a *ℤ missing_powers rs e m)))
+      (subst₂ IsBound (replaced_is rs m.list) (replaced_bulk_is rs m.list) (bounded_products (replaced_power rs) (replaced_bulk rs) (replaced_bounded rs) m.list))
 
 pub multiple_apart : (S : Space) (rules : List LeadRule) (e : ℕ → ℕ) (m : Monomial) (a : ℤ) (number multiple : WholePolynomial) → ¬ (a ≡ pos 0) → Every (λ (r : LeadRule). ¬ (r.c ≡ pos 0)) rules → number ≡ constant a → multiple ≡ number *ᴾ constant (missing_powers (solved_equations S rules) e m) → ¬ (multiple ≡ 0ᴾ)
 multiple_apart S rules e m a number multiple n h f g z =
@@ -131,9 +132,9 @@ module _ (rs : List SolvedEquation) (e : ℕ → ℕ) where
   abbrev pub bulk_term : Monomial → ℤ → WholePolynomial
   bulk_term m a = reduced_term (absolute_equations rs) e m (pos (unsigned_abs a))
 
-  sized_bounded : (ts : List (Monomial × ℤ)) → IsBounded (total sized_term ts) (total bulk_term ts)
-  sized_bounded [] = bounded_none
-  sized_bounded (t ∷ ts) = bounded_sum (sized_term t.0 t.1) (total sized_term ts) (bulk_term t.0 t.1) (total bulk_term ts) (absolute_bounded (reduced_term rs e t.0 t.1) (bulk_term t.0 t.1) (term_bounded rs e t.0 t.1)) (sized_bounded ts)
+  sized_bounded : (ts : List (Monomial × ℤ)) → IsBound (total sized_term ts) (total bulk_term ts)
+  sized_bounded [] = none_bound
+  sized_bounded (t ∷ ts) = sum_bound (sized_term t.0 t.1) (total sized_term ts) (bulk_term t.0 t.1) (total bulk_term ts) (covered_absolute (reduced_term rs e t.0 t.1) (bulk_term t.0 t.1) (term_bounded rs e t.0 t.1)) (sized_bounded ts)
 
   bulk_total : (ts : List (Monomial × ℤ)) → total bulk_term ts ≡ total (reduced_term (absolute_equations rs) e) (absolutes ts)
   bulk_total [] = refl
@@ -147,24 +148,24 @@ module _ (rs : List SolvedEquation) (e : ℕ → ℕ) where
   unfolding reduced_by absolute
   bulk_of p = bulk_total p.list ∙ ap (total (reduced_term (absolute_equations rs) e)) (sym (list-of terms (absolutes p.list) (canonical_absolutes p.list p.canonical)))
 
-  terms_bounded : (ts : List (Monomial × ℤ)) → IsBounded (total (reduced_term rs e) ts) (total bulk_term ts)
-  terms_bounded [] = bounded_none
-  terms_bounded (t ∷ ts) = bounded_sum (reduced_term rs e t.0 t.1) (total (reduced_term rs e) ts) (bulk_term t.0 t.1) (total bulk_term ts) (term_bounded rs e t.0 t.1) (terms_bounded ts)
+  terms_bounded : (ts : List (Monomial × ℤ)) → IsBound (total (reduced_term rs e) ts) (total bulk_term ts)
+  terms_bounded [] = none_bound
+  terms_bounded (t ∷ ts) = sum_bound (reduced_term rs e t.0 t.1) (total (reduced_term rs e) ts) (bulk_term t.0 t.1) (total bulk_term ts) (term_bounded rs e t.0 t.1) (terms_bounded ts)
 
   -- the reduction is bounded by its bulk
-  pub reduction_bounded : (p : WholePolynomial) → IsBounded (reduced_by rs e p) (reduction_bulk_by rs e p)
-  reduction_bounded p = subst₂ IsBounded (reduced_total p) (bulk_of p) (terms_bounded p.list)
+  pub reduction_bounded : (p : WholePolynomial) → IsBound (reduced_by rs e p) (reduction_bulk_by rs e p)
+  reduction_bounded p = subst₂ IsBound (reduced_total p) (bulk_of p) (terms_bounded p.list)
 
   pub sum_cause : (fail : PolyFail) (p made : WholePolynomial) (ts : List (Monomial × ℤ)) → ts ≡ p.list → made ≡ total sized_term ts → IsCause fail made → IsCause fail (reduction_bulk_by rs e p)
-  sum_cause fail p made ts l h c = subst (IsCause fail) (ap (total bulk_term) l ∙ bulk_of p) (cause_covered fail made (total bulk_term ts) (subst (λ q. IsCovered q (total bulk_term ts)) (sym h) (bounded_covered _ _ (sized_bounded ts))) c)
+  sum_cause fail p made ts l h c = subst (IsCause fail) (ap (total bulk_term) l ∙ bulk_of p) (cause_covered fail made (total bulk_term ts) (subst (λ q. IsCovered q (total bulk_term ts)) (sym h) ((sized_bounded ts).covered)) c)
 
   bulk_plain : (ts : List (Monomial × ℤ)) → IsNonNegative (total bulk_term ts)
-  bulk_plain ts = bounded_plain _ _ (sized_bounded ts)
+  bulk_plain ts = (sized_bounded ts).plain
 
   term_covered : (ts : List (Monomial × ℤ)) (i : ℕ) (t : Monomial × ℤ) → i < length ts → t ≡ get_or ts i t → IsCovered (bulk_term t.0 t.1) (total bulk_term ts)
   term_covered [] i t lt is = absurd (omega arith)
-  term_covered (u ∷ ts) zero t lt is = subst (λ (x : Monomial × ℤ). IsCovered (bulk_term x.0 x.1) (total bulk_term (u ∷ ts))) (sym is) (covered_first (bulk_term u.0 u.1) (total bulk_term ts) (bounded_plain _ _ (term_bounded rs e u.0 u.1)) (bulk_plain ts))
-  term_covered (u ∷ ts) (suc i) t lt is = covered_trans _ (total bulk_term ts) _ (term_covered ts i t (omega arith) is) (covered_second (bulk_term u.0 u.1) (total bulk_term ts) (bounded_plain _ _ (term_bounded rs e u.0 u.1)) (bulk_plain ts))
+  term_covered (u ∷ ts) zero t lt is = subst (λ (x : Monomial × ℤ). IsCovered (bulk_term x.0 x.1) (total bulk_term (u ∷ ts))) (sym is) (covered_first (bulk_term u.0 u.1) (total bulk_term ts) ((term_bounded rs e u.0 u.1).plain) (bulk_plain ts))
+  term_covered (u ∷ ts) (suc i) t lt is = covered_trans _ (total bulk_term ts) _ (term_covered ts i t (omega arith) is) (covered_second (bulk_term u.0 u.1) (total bulk_term ts) ((term_bounded rs e u.0 u.1).plain) (bulk_plain ts))
 
   pub term_cause : (fail : PolyFail) (p : WholePolynomial) (ts : List (Monomial × ℤ)) (i : ℕ) (t : Monomial × ℤ) → ts ≡ p.list → i < length ts → t ≡ get_or ts i t → IsCause fail (bulk_term t.0 t.1) → IsCause fail (reduction_bulk_by rs e p)
   term_cause fail p ts i t l lt is c = subst (IsCause fail) (ap (total bulk_term) l ∙ bulk_of p) (cause_covered fail (bulk_term t.0 t.1) (total bulk_term ts) (term_covered ts i t lt is) c)

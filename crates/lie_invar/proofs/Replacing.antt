@@ -23,16 +23,15 @@ use Rattle.lie_geometry.proofs.Reduction.{replacement_other}
 use Rattle.lie_ring.specs.Causes.{IsCause}
 use Rattle.lie_ring.specs.declared.failures.PolyFail.{PolyFail}
 use Rattle.lie_jet.specs.Jets.{coordinate_of}
-use Rattle.lie_prolong.proofs.Absolutes.{IsBounded, bounded_absolute}
 use Rattle.lie_solved.specs.declared.solved.LeadRule.{LeadRule}
 use Rattle.lie_solved.specs.SolvedForms.{solved_equations}
 use Rattle.lie_solved.proofs.Variables.{weaken}
 use Rattle.lie_invar.specs.Bulks.{absolute_equations}
 use Rattle.lie_invar.specs.ReducedTerms.{power, replaced, IsKept, exponents_at}
 use Rattle.lie_invar.proofs.Factors.{product, product_more, product_cause, apart_product, every_before, read_same}
-use Rattle.lie_invar.proofs.PowerSteps.{one_absolute, absolute_proper}
+use Rattle.lie_invar.proofs.PowerSteps.{absolute_proper}
 use Rattle.lie_invar.proofs.Products.{IsProper, bounded_power, proper_power}
-use Rattle.lie_jet.proofs.FormBounds.{coefficient_absolute}
+use Rattle.lie_jet.proofs.FormBounds.{coefficient_absolute, IsBound, absolute_bound}
 use Rattle.lie_jet.proofs.TotalBounds.{absolute_variable}
 
 -- ---- the rule of a lead
@@ -127,8 +126,8 @@ module _ (rs : List SolvedEquation) where
   replaced_bulk_is [] = refl
   replaced_bulk_is (p ∷ ps) = ap₂ (λ x y. power x p.1 *ᴾ y) (sym (replacement_absolute rs p.0)) (replaced_bulk_is ps)
 
-  pub replaced_bounded : (p : ℕ × ℕ) → IsBounded (replaced_power p) (replaced_bulk p)
-  replaced_bounded p = bounded_power (replacement rs p.0) (absolute (replacement rs p.0)) (bounded_absolute (replacement rs p.0)) p.1
+  pub replaced_bounded : (p : ℕ × ℕ) → IsBound (replaced_power p) (replaced_bulk p)
+  replaced_bounded p = bounded_power (replacement rs p.0) (absolute (replacement rs p.0)) (absolute_bound (replacement rs p.0)) p.1
 
   pub kept_proper : (ps : List (ℕ × ℕ)) → Every (IsKept rs) ps → Every (λ p. IsProper (replaced_bulk p)) ps
   kept_proper ps h = weaken (IsKept rs) (λ p. IsProper (replaced_bulk p)) (λ p n. proper_power (absolute (replacement rs p.0)) (absolute_proper (replacement rs p.0) n) p.1) ps h
@@ -156,8 +155,8 @@ module _ (S : Space) (e : ℕ → ℕ) (m : Monomial) where
       ap₂ ◌*ᴾ◌ (ap (λ p. power p (e (lead_number r) - exponent m (lead_number r))) (absolute_constant r.c) ∙ power_constant (pos (unsigned_abs r.c)) (e (lead_number r) - exponent m (lead_number r))) (missing_bulk_is rules)
       ∙ sym (constant-times (to_power integer_algebra (pos (unsigned_abs r.c)) (e (lead_number r) - exponent m (lead_number r))) (missing_powers (absolute_equations (solved_equations S rules)) e m))
 
-  pub missing_bounded : (r : LeadRule) → IsBounded (missing_power r) (missing_bulk r)
-  missing_bounded r = bounded_power (constant r.c) (absolute (constant r.c)) (bounded_absolute (constant r.c)) (e (lead_number r) - exponent m (lead_number r))
+  pub missing_bounded : (r : LeadRule) → IsBound (missing_power r) (missing_bulk r)
+  missing_bounded r = bounded_power (constant r.c) (absolute (constant r.c)) (absolute_bound (constant r.c)) (e (lead_number r) - exponent m (lead_number r))
 
   pub factors_proper : (rules : List LeadRule) → Every (λ (r : LeadRule). ¬ (r.c ≡ pos 0)) rules → Every (λ r. IsProper (missing_bulk r)) rules
   factors_proper rules h = weaken (λ (r : LeadRule). ¬ (r.c ≡ pos 0)) (λ r. IsProper (missing_bulk r)) (λ r n. proper_power (absolute (constant r.c)) (absolute_proper (constant r.c) (term_apart unit r.c n)) (e (lead_number r) - exponent m (lead_number r))) rules h

@@ -1,13 +1,12 @@
-// Rules and polynomials with the absolute values of all coefficients.
-ghost use Rattle.std.specs.Prelude.{◌≡◌, map, IfOk, IfErr};
-ghost use Rattle.lie_math.specs.Limits.{absolute};
+// Rules with the absolute values of all coefficients.
+ghost use Rattle.std.specs.Prelude.{◌≡◌, IfOk, IfErr};
 ghost use Rattle.lie_geometry.specs.Coordinates as coordinates;
 ghost use Rattle.lie_poly.specs.Failures.{IsStarved};
 ghost use Rattle.lie_solved.specs.SolvedForms.{solved_equations};
 ghost use Rattle.lie_invar.specs.Bulks.{absolute_equations};
 ghost use Rattle.lie_invar.specs.Reductions.{CanReduce, IsAbsoluteRule};
 
-use lie_jet::{JetPoly, absolute_polynomial, absolute_value};
+use lie_jet::{absolute_polynomial, absolute_value};
 use lie_ring::PolyFail;
 use lie_solved::LeadRule;
 use std::alloc::Global;
@@ -33,20 +32,6 @@ pub fn absolute_rules(alloc: Global, rules: &[LeadRule]) -> Result<Vec<LeadRule>
     let mut made = Vec::new(alloc);
     for rule in rules {
         if made.push(absolute_rule(alloc, rule)?).is_err() {
-            return Err(PolyFail::NoMemory);
-        }
-    }
-    Ok(made)
-}
-
-/// The polynomials with the absolute values of all coefficients.
-pub fn absolute_all(alloc: Global, polynomials: &[JetPoly]) -> Result<Vec<JetPoly>, PolyFail>
-    ensures sizes { IfOk result (λ made. made.items ≡ map absolute polynomials.now) }
-    ensures memory { IfErr result IsStarved }
-{
-    let mut made = Vec::new(alloc);
-    for p in polynomials {
-        if made.push(absolute_polynomial(alloc, p)?).is_err() {
             return Err(PolyFail::NoMemory);
         }
     }

@@ -1,5 +1,5 @@
 -- Absolute values of coefficients, and what they bound.
-use Rattle.std.specs.Prelude.{◌≡◌, ℕ, zero, suc, Bool, List, [], ◌∷◌, map, length, All, ℤ, pos, negsuc, ◌+ℤ◌, unsigned_abs}
+use Rattle.std.specs.Prelude.{◌≡◌, ◌≤◌, ℕ, zero, suc, Bool, List, [], ◌∷◌, map, length, All, ℤ, pos, negsuc, ◌+ℤ◌, unsigned_abs}
 use Rattle.std.proofs.Common.{refl, sym, ap, ap₂, subst, ◌∙◌, arith, get_or}
 use borrow.Author.Differences.{ints}
 use Rattle.lie_math.specs.Codes.{same_vector_field}
@@ -16,67 +16,26 @@ use Rattle.lie_math.specs.Limits.{absolute}
 use Rattle.lie_math.specs.Monomial.{Monomial}
 use Rattle.lie_math.specs.Polynomial.{WholePolynomial, terms, coefficient, 0ᴾ, ◌+ᴾ◌, ◌*ᴾ◌, constant, negᴾ}
 use Rattle.lie_math.specs.PolynomialRing.{negᴾ_l, one-*ᴾ}
-use Rattle.lie_math.proofs.Limits.{IsCovered, IsNonNegative}
-use Rattle.lie_poly.proofs.BulkLists.{Bounds}
-use Rattle.lie_jet.proofs.FormBounds.{coefficient_absolute, absolute_none}
-
--- ---- the coefficients of the absolute value
-
--- ---- p is bounded by b, which has no negative coefficient
-pub record IsBounded (p b : WholePolynomial) : Type 0 where
-  pub bounds : (m : Monomial) → Bounds (coefficient p m) (coefficient b m)
-
-pub bounded_covered : (p b : WholePolynomial) → IsBounded p b → IsCovered p b
-bounded_covered p b h = record { at_most = λ m. (h.bounds m).covered }
-
-pub bounded_plain : (p b : WholePolynomial) → IsBounded p b → IsNonNegative b
-bounded_plain p b h = record { plain = λ m. (h.bounds m).plain }
-
-pub bounded_absolute : (p : WholePolynomial) → IsBounded p (absolute p)
-bounded_absolute p = record { bounds = λ m. here (coefficient p m) (coefficient (absolute p) m) (coefficient_absolute p m) }
-  where
-    here : (x y : ℤ) → y ≡ pos (unsigned_abs x) → Bounds x y
-    here x y e = record { covered = omega (arith, ints); plain = omega (arith, ints) }
-
--- so is its absolute value
-pub absolute_bounded : (p b : WholePolynomial) → IsBounded p b → IsBounded (absolute p) b
-absolute_bounded p b h = record { bounds = λ m. here (coefficient p m) _ _ (coefficient_absolute p m) (h.bounds m) }
-  where
-    here : (x y z : ℤ) → y ≡ pos (unsigned_abs x) → Bounds x z → Bounds y z
-    here x y z e h = record { covered = let k = h.covered in omega (arith, ints); plain = h.plain }
+use Rattle.lie_math.proofs.Limits.{IsNonNegative, nonneg_sum}
+use Rattle.lie_jet.proofs.FormBounds.{coefficient_absolute, absolute_none, IsBound, sum_bound, none_bound}
 
 pub absolute-nonneg : (p : WholePolynomial) → IsNonNegative p → absolute p ≡ p
 absolute-nonneg p h = ext terms (absolute p) p (λ m. coefficient_absolute p m ∙ sym (h.plain m))
 
 -- ---- sums
-pub bounded_sum : (p q b d : WholePolynomial) → IsBounded p b → IsBounded q d → IsBounded (p +ᴾ q) (b +ᴾ d)
-bounded_sum p q b d h k = record { bounds = λ m. here _ _ _ _ _ _ (value-plus terms p q m) (value-plus terms b d m) (h.bounds m) (k.bounds m) }
-  where
-    here : (x y u v s t : ℤ) → s ≡ x +ℤ y → t ≡ u +ℤ v → Bounds x u → Bounds y v → Bounds s t
-    here x y u v s t e f h k = record {
-      covered = let a = h.covered in let b = h.plain in let c = k.covered in let d = k.plain in omega (arith, ints);
-      plain = let b = h.plain in let d = k.plain in omega (arith, ints);
-    }
-
-pub bounded_none : IsBounded 0ᴾ 0ᴾ
-bounded_none = record { bounds = λ m. here _ (value-none terms m) }
-  where
-    here : (x : ℤ) → x ≡ pos 0 → Bounds x x
-    here x e = record { covered = omega arith; plain = omega (arith, ints) }
-
-pub bounded_sum_of : (is : List ℕ) (f g : ℕ → WholePolynomial) → ((i : ℕ) → IsBounded (f i) (g i)) → IsBounded (sum_of is f) (sum_of is g)
-bounded_sum_of [] f g h = bounded_none
-bounded_sum_of (i ∷ is) f g h = bounded_sum (f i) (sum_of is f) (g i) (sum_of is g) (h i) (bounded_sum_of is f g h)
+pub bounded_sum_of : (is : List ℕ) (f g : ℕ → WholePolynomial) → ((i : ℕ) → IsBound (f i) (g i)) → IsBound (sum_of is f) (sum_of is g)
+bounded_sum_of [] f g h = none_bound
+bounded_sum_of (i ∷ is) f g h = sum_bound (f i) (sum_of is f) (g i) (sum_of is g) (h i) (bounded_sum_of is f g h)
 
 -- a sum of polynomials without negative coefficients bounds what the first bounds
-pub bounded_more : (p b d : WholePolynomial) → IsBounded p b → IsNonNegative d → IsBounded p (b +ᴾ d)
-bounded_more p b d h k = record { bounds = λ m. here _ _ _ _ (value-plus terms b d m) (h.bounds m) (k.plain m) }
+pub bounded_more : (p b d : WholePolynomial) → IsBound p b → IsNonNegative d → IsBound p (b +ᴾ d)
+bounded_more p b d h k = record {
+  covered = record { at_most = λ m. here (coefficient p m) (coefficient b m) (coefficient d m) (coefficient (b +ᴾ d) m) (value-plus terms b d m) (h.covered.at_most m) (h.plain.plain m) (k.plain m) };
+  plain = nonneg_sum b d h.plain k;
+}
   where
-    here : (x u v t : ℤ) → t ≡ u +ℤ v → Bounds x u → v ≡ pos (unsigned_abs v) → Bounds x t
-    here x u v t f h k = record {
-      covered = let a = h.covered in let b = h.plain in omega (arith, ints);
-      plain = let b = h.plain in omega (arith, ints);
-    }
+    here : (x u v t : ℤ) → t ≡ u +ℤ v → unsigned_abs x ≤ unsigned_abs u → u ≡ pos (unsigned_abs u) → v ≡ pos (unsigned_abs v) → unsigned_abs x ≤ unsigned_abs t
+    here x u v t f a b k = omega (arith, ints)
 
 -- ---- what is left of a bound
 pub left_over : WholePolynomial → WholePolynomial → WholePolynomial
@@ -89,11 +48,11 @@ cancelled p b m = here _ _ _ (coefficient p m) _ (value-plus terms b (negᴾ (ab
     here : (b n a x s : ℤ) → s ≡ b +ℤ n → n +ℤ a ≡ pos 0 → a ≡ pos (unsigned_abs x) → s +ℤ pos (unsigned_abs x) ≡ b
     here b n a x s e f g = omega (arith, ints)
 
-pub left_over_plain : (p b : WholePolynomial) → IsBounded p b → IsNonNegative (left_over p b)
-left_over_plain p b h = record { plain = λ m. here _ _ _ (cancelled p b m) (h.bounds m) }
+pub left_over_plain : (p b : WholePolynomial) → IsBound p b → IsNonNegative (left_over p b)
+left_over_plain p b h = record { plain = λ m. here (coefficient (left_over p b) m) (coefficient p m) (coefficient b m) (cancelled p b m) (h.covered.at_most m) (h.plain.plain m) }
   where
-    here : (s x y : ℤ) → s +ℤ pos (unsigned_abs x) ≡ y → Bounds x y → s ≡ pos (unsigned_abs s)
-    here s x y e h = let a = h.covered in let b = h.plain in omega (arith, ints)
+    here : (s x y : ℤ) → s +ℤ pos (unsigned_abs x) ≡ y → unsigned_abs x ≤ unsigned_abs y → y ≡ pos (unsigned_abs y) → s ≡ pos (unsigned_abs s)
+    here s x y e a b = omega (arith, ints)
 
 pub left_over_sum : (p b : WholePolynomial) → absolute p +ᴾ left_over p b ≡ b
 left_over_sum p b = ext terms (absolute p +ᴾ left_over p b) b (λ m. here _ _ (coefficient p m) _ _ (value-plus terms (absolute p) (left_over p b) m) (coefficient_absolute p m) (cancelled p b m))
@@ -108,15 +67,18 @@ pub absolute_in : (T : ℕ → Bool) (p : WholePolynomial) → IsIn T p → IsIn
 absolute_in T p h v out m n = h v out m (λ z. n (coefficient_absolute p m ∙ ap (λ c. pos (unsigned_abs c)) z))
 
 -- ---- a sign
-pub bounded_negative : (p b : WholePolynomial) → IsBounded p b → IsBounded (negᴾ p) b
-bounded_negative p b h = record { bounds = λ m. here _ _ _ (sym (value-plus terms (negᴾ p) p m) ∙ ap (λ q. coefficient q m) (negᴾ_l p) ∙ value-none terms m) (h.bounds m) }
+pub bounded_negative : (p b : WholePolynomial) → IsBound p b → IsBound (negᴾ p) b
+bounded_negative p b h = record {
+  covered = record { at_most = λ m. here (coefficient (negᴾ p) m) (coefficient p m) (coefficient b m) (sym (value-plus terms (negᴾ p) p m) ∙ ap (λ q. coefficient q m) (negᴾ_l p) ∙ value-none terms m) (h.covered.at_most m) };
+  plain = h.plain;
+}
   where
-    here : (n x y : ℤ) → n +ℤ x ≡ pos 0 → Bounds x y → Bounds n y
-    here n x y e h = record { covered = let k = h.covered in omega (arith, ints); plain = h.plain }
+    here : (n x y : ℤ) → n +ℤ x ≡ pos 0 → unsigned_abs x ≤ unsigned_abs y → unsigned_abs n ≤ unsigned_abs y
+    here n x y e a = omega (arith, ints)
 
-pub bounded_signed : (z : ℤ) (p b : WholePolynomial) → unsigned_abs z ≡ 1 → IsBounded p b → IsBounded (constant z *ᴾ p) b
-bounded_signed (pos n) p b e h = subst (λ k. IsBounded (constant (pos k) *ᴾ p) b) (sym e) (subst (λ q. IsBounded q b) (sym (one-*ᴾ p)) h)
-bounded_signed (negsuc n) p b e h = subst (λ k. IsBounded (constant (negsuc k) *ᴾ p) b) (none e) (bounded_negative p b h)
+pub bounded_signed : (z : ℤ) (p b : WholePolynomial) → unsigned_abs z ≡ 1 → IsBound p b → IsBound (constant z *ᴾ p) b
+bounded_signed (pos n) p b e h = subst (λ k. IsBound (constant (pos k) *ᴾ p) b) (sym e) (subst (λ q. IsBound q b) (sym (one-*ᴾ p)) h)
+bounded_signed (negsuc n) p b e h = subst (λ k. IsBound (constant (negsuc k) *ᴾ p) b) (none e) (bounded_negative p b h)
   where
     none : unsigned_abs (negsuc n) ≡ 1 → 0 ≡ n
     none e = omega arith

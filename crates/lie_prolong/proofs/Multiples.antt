@@ -17,10 +17,11 @@ use Rattle.lie_ring.specs.declared.failures.PolyFail.{PolyFail}
 use Rattle.lie_poly.proofs.SumSteps.{cause_covered}
 use Rattle.lie_jet.specs.Jets.{IsSmall}
 use Rattle.lie_prolong.specs.Bulks.{absolute_field, multiples}
-use Rattle.lie_prolong.proofs.Absolutes.{IsBounded, bounded_plain, bounded_covered, bounded_sum, bounded_sum_of, bounded_signed, absolute_bounded, component-absolute}
+use Rattle.lie_prolong.proofs.Absolutes.{bounded_sum_of, bounded_signed, component-absolute}
 use Rattle.lie_prolong.proofs.Positive.{positive_absolute, positive_bounded, total_is_positive, times_is_positive}
 use Rattle.lie_prolong.proofs.Coefficients.{first_covered, one_covered}
 use Rattle.lie_jet.proofs.Absolutes.{absolute_twice}
+use Rattle.lie_jet.proofs.FormBounds.{IsBound, covered_absolute, sum_bound}
 
 pub component_read : (V : VectorField) (ps : List WholePolynomial) (i k : ℕ) (r : WholePolynomial) → ps ≡ V.parts → k ≡ i → i < length V.parts → r ≡ get_or ps k r → r ≡ component V i
 component_read V ps i k r e f h q = get_or_read V.parts i r h (q ∙ ap₂ (λ (xs : List WholePolynomial) (n : ℕ). get_or xs n r) e f) 0ᴾ
@@ -33,13 +34,13 @@ module _ (S : Space) (small : IsSmall S) (k : ℕ) (inside : k < S.p) (a : ℕ) 
     abbrev one_bulk : ℕ → WholePolynomial
     one_bulk i = total_derivative S k (absolute (V i)) *ᴾ jet_variable S a (raise i J)
 
-    one_bounded : (i : ℕ) → IsBounded (one i) (one_bulk i)
+    one_bounded : (i : ℕ) → IsBound (one i) (one_bulk i)
     one_bounded i = positive_bounded (times_is_positive (number S (jet a (raise i J)))) (total_derivative S k (V i)) (total_derivative S k (absolute (V i))) (positive_absolute (total_is_positive S small k inside) (V i))
 
     one_plain : (i : ℕ) → IsNonNegative (one_bulk i)
-    one_plain i = bounded_plain (one i) (one_bulk i) (one_bounded i)
+    one_plain i = (one_bounded i).plain
 
-    multiples_bounded : IsBounded (multiples S V k a J) (multiples S (λ i. absolute (V i)) k a J)
+    multiples_bounded : IsBound (multiples S V k a J) (multiples S (λ i. absolute (V i)) k a J)
     multiples_bounded = bounded_sum_of (numbers_below S.p) one one_bulk one_bounded
 
     pub one_cause : (fail : PolyFail) (i n : ℕ) (r : WholePolynomial) → i < S.p → r ≡ V i → n ≡ number S (jet a (raise i J)) → IsCause fail (total_derivative S k (absolute r) *ᴾ variable n) → IsCause fail (multiples S (λ i. absolute (V i)) k a J)
@@ -49,34 +50,34 @@ module _ (S : Space) (small : IsSmall S) (k : ℕ) (inside : k < S.p) (a : ℕ) 
     sum_cause fail i m s h e f c =
         cause_covered fail (absolute m +ᴾ absolute s) _
         (covered_trans _ (one_bulk i +ᴾ sum_of (numbers_below i) one_bulk) _
-        (bounded_covered _ _ (bounded_sum (absolute m) (absolute s) (one_bulk i) (sum_of (numbers_below i) one_bulk)
-        (absolute_bounded m (one_bulk i) (subst (λ p. IsBounded p (one_bulk i)) (sym e) (one_bounded i)))
-        (absolute_bounded s (sum_of (numbers_below i) one_bulk) (subst (λ p. IsBounded p (sum_of (numbers_below i) one_bulk)) (sym f) (bounded_sum_of (numbers_below i) one one_bulk one_bounded)))))
+        ((sum_bound (absolute m) (absolute s) (one_bulk i) (sum_of (numbers_below i) one_bulk)
+        (covered_absolute m (one_bulk i) (subst (λ p. IsBound p (one_bulk i)) (sym e) (one_bounded i)))
+        (covered_absolute s (sum_of (numbers_below i) one_bulk) (subst (λ p. IsBound p (sum_of (numbers_below i) one_bulk)) (sym f) (bounded_sum_of (numbers_below i) one one_bulk one_bounded)))).covered)
         (first_covered (suc i) S.p one_bulk one_plain (let l : i < S.p = h in omega arith))) c
 
     -- ---- the whole step
     abbrev whole : WholePolynomial → WholePolynomial
     whole P = total_derivative S k (absolute P) +ᴾ multiples S (λ i. absolute (V i)) k a J
 
-    total_bounded : (P : WholePolynomial) → IsBounded (total_derivative S k P) (total_derivative S k (absolute P))
+    total_bounded : (P : WholePolynomial) → IsBound (total_derivative S k P) (total_derivative S k (absolute P))
     total_bounded P = positive_absolute (total_is_positive S small k inside) P
 
     pub total_cause : (fail : PolyFail) (P : WholePolynomial) → IsCause fail (total_derivative S k (absolute P)) → IsCause fail (whole P)
-    total_cause fail P = cause_covered fail _ _ (covered_first _ _ (bounded_plain _ _ (total_bounded P)) (bounded_plain _ _ multiples_bounded))
+    total_cause fail P = cause_covered fail _ _ (covered_first _ _ ((total_bounded P).plain) (multiples_bounded.plain))
 
     pub multiples_cause : (fail : PolyFail) (P : WholePolynomial) → IsCause fail (multiples S (λ i. absolute (V i)) k a J) → IsCause fail (whole P)
-    multiples_cause fail P = cause_covered fail _ _ (covered_second _ _ (bounded_plain _ _ (total_bounded P)) (bounded_plain _ _ multiples_bounded))
+    multiples_cause fail P = cause_covered fail _ _ (covered_second _ _ ((total_bounded P).plain) (multiples_bounded.plain))
 
     pub scale_cause : (fail : PolyFail) (P s : WholePolynomial) (z : ℤ) → unsigned_abs z ≡ 1 → s ≡ multiples S V k a J → IsCause fail (constant (pos (unsigned_abs z)) *ᴾ absolute s) → IsCause fail (whole P)
     scale_cause fail P s z u e c =
-        multiples_cause fail P (cause_covered fail (absolute s) _ (bounded_covered _ _ (absolute_bounded s _ (subst (λ p. IsBounded p (multiples S (λ i. absolute (V i)) k a J)) (sym e) multiples_bounded)))
+        multiples_cause fail P (cause_covered fail (absolute s) _ ((covered_absolute s _ (subst (λ p. IsBound p (multiples S (λ i. absolute (V i)) k a J)) (sym e) multiples_bounded)).covered)
         (subst (IsCause fail) (ap (λ n. constant (pos n) *ᴾ absolute s) u ∙ one-*ᴾ (absolute s)) c))
 
     pub add_cause : (fail : PolyFail) (P d s m : WholePolynomial) (z : ℤ) → unsigned_abs z ≡ 1 → d ≡ total_derivative S k P → m ≡ multiples S V k a J → s ≡ constant z *ᴾ m → IsCause fail (absolute d +ᴾ absolute s) → IsCause fail (whole P)
     add_cause fail P d s m z u e f g =
-        cause_covered fail (absolute d +ᴾ absolute s) _ (bounded_covered _ _ (bounded_sum (absolute d) (absolute s) _ _
-        (absolute_bounded d _ (subst (λ p. IsBounded p (total_derivative S k (absolute P))) (sym e) (total_bounded P)))
-        (absolute_bounded s _ (subst (λ p. IsBounded p (multiples S (λ i. absolute (V i)) k a J)) (sym (g ∙ ap (λ p. constant z *ᴾ p) f)) (bounded_signed z _ _ u multiples_bounded)))))
+        cause_covered fail (absolute d +ᴾ absolute s) _ ((sum_bound (absolute d) (absolute s) _ _
+        (covered_absolute d _ (subst (λ p. IsBound p (total_derivative S k (absolute P))) (sym e) (total_bounded P)))
+        (covered_absolute s _ (subst (λ p. IsBound p (multiples S (λ i. absolute (V i)) k a J)) (sym (g ∙ ap (λ p. constant z *ᴾ p) f)) (bounded_signed z _ _ u multiples_bounded)))).covered)
 
 -- ---- the step with absolute values
 pub components_are : (V W : VectorField) → W ≡ absolute_field V → component W ≡ (λ i. absolute (component V i))

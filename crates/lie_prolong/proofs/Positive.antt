@@ -24,39 +24,40 @@ use Rattle.lie_jet.proofs.ChainRules.{part}
 use Rattle.lie_jet.proofs.Raised.{slope_of_jet, slope_at_itself, slope_elsewhere}
 use Rattle.lie_jet.proofs.TotalParts.{total_term, number_of_independent}
 use Rattle.lie_jet.proofs.TotalSteps.{size_times}
-use Rattle.lie_prolong.proofs.Absolutes.{IsBounded, bounded_covered, absolute_bounded, bounded_plain, bounded_none, bounded_sum, bounded_more, left_over, left_over_plain, left_over_sum, absolute-nonneg}
+use Rattle.lie_prolong.proofs.Absolutes.{bounded_more, left_over, left_over_plain, left_over_sum, absolute-nonneg}
 use Rattle.lie_jet.proofs.TotalBounds.{absolute_variable}
 use Rattle.lie_math.specs.Integer.{*ℤ-idl}
+use Rattle.lie_jet.proofs.FormBounds.{IsBound, covered_absolute, none_bound, sum_bound}
 
 pub record IsPositive (F : WholePolynomial → WholePolynomial) : Type 0 where
   pub plus : (p q : WholePolynomial) → F (p +ᴾ q) ≡ F p +ᴾ F q
   pub nothing : F 0ᴾ ≡ 0ᴾ
-  pub on_term : (m : Monomial) (c : ℤ) → IsBounded (F (term m c)) (F (term m (pos (unsigned_abs c))))
+  pub on_term : (m : Monomial) (c : ℤ) → IsBound (F (term m c)) (F (term m (pos (unsigned_abs c))))
 
-bounded_terms : (es fs : List (Monomial × ℤ)) → IsBulkOf es fs → IsBounded (polynomial_of es) (polynomial_of fs)
-bounded_terms es fs h = let c = bulk_covers es fs h in let n = bulk_nonneg es fs h in record { bounds = λ m. record { covered = c.at_most m; plain = n.plain m } }
+bounded_terms : (es fs : List (Monomial × ℤ)) → IsBulkOf es fs → IsBound (polynomial_of es) (polynomial_of fs)
+bounded_terms es fs h = record { covered = bulk_covers es fs h; plain = bulk_nonneg es fs h }
 
-pub bounded_term : (m : Monomial) (c : ℤ) → IsBounded (term m c) (term m (pos (unsigned_abs c)))
-bounded_term m c = subst₂ IsBounded (sym (term_is m c)) (sym (term_is m (pos (unsigned_abs c)))) (bounded_terms ((m, c) ∷ []) ((m, pos (unsigned_abs c)) ∷ []) (bulk_absolutes ((m, c) ∷ [])))
+pub bounded_term : (m : Monomial) (c : ℤ) → IsBound (term m c) (term m (pos (unsigned_abs c)))
+bounded_term m c = subst₂ IsBound (sym (term_is m c)) (sym (term_is m (pos (unsigned_abs c)))) (bounded_terms ((m, c) ∷ []) ((m, pos (unsigned_abs c)) ∷ []) (bulk_absolutes ((m, c) ∷ [])))
 
 module _ {F : WholePolynomial → WholePolynomial} (is : IsPositive F) where
-  listed : (es : List (Monomial × ℤ)) → IsBounded (F (polynomial_of es)) (F (polynomial_of (absolutes es)))
-  listed [] = subst (λ p. IsBounded p p) (sym (ap F polynomial_of-none ∙ is.nothing)) bounded_none
-  listed (e ∷ es) = subst₂ IsBounded (sym (parted e es)) (sym (parted (e.0, pos (unsigned_abs e.1)) (absolutes es))) (bounded_sum _ _ _ _ (is.on_term e.0 e.1) (listed es))
+  listed : (es : List (Monomial × ℤ)) → IsBound (F (polynomial_of es)) (F (polynomial_of (absolutes es)))
+  listed [] = subst (λ p. IsBound p p) (sym (ap F polynomial_of-none ∙ is.nothing)) none_bound
+  listed (e ∷ es) = subst₂ IsBound (sym (parted e es)) (sym (parted (e.0, pos (unsigned_abs e.1)) (absolutes es))) (sum_bound _ _ _ _ (is.on_term e.0 e.1) (listed es))
     where
       parted : (e : Monomial × ℤ) (es : List (Monomial × ℤ)) → F (polynomial_of (e ∷ es)) ≡ F (term e.0 e.1) +ᴾ F (polynomial_of es)
       parted e es = ap F (of-cons terms e es ∙ ap (λ p. p +ᴾ polynomial_of es) (sym (term_is e.0 e.1))) ∙ is.plus (term e.0 e.1) (polynomial_of es)
 
-  pub positive_absolute : (p : WholePolynomial) → IsBounded (F p) (F (absolute p))
+  pub positive_absolute : (p : WholePolynomial) → IsBound (F p) (F (absolute p))
   unfolding absolute
-  positive_absolute p = subst (λ q. IsBounded (F q) (F (polynomial_of (absolutes p.list)))) (of_list terms p) (listed p.list)
+  positive_absolute p = subst (λ q. IsBound (F q) (F (polynomial_of (absolutes p.list)))) (of_list terms p) (listed p.list)
 
   pub positive_plain : (p : WholePolynomial) → IsNonNegative p → IsNonNegative (F p)
-  positive_plain p h = subst (λ q. IsNonNegative (F q)) (absolute-nonneg p h) (bounded_plain _ _ (positive_absolute p))
+  positive_plain p h = subst (λ q. IsNonNegative (F q)) (absolute-nonneg p h) ((positive_absolute p).plain)
 
-  pub positive_bounded : (p b : WholePolynomial) → IsBounded p b → IsBounded (F p) (F b)
+  pub positive_bounded : (p b : WholePolynomial) → IsBound p b → IsBound (F p) (F b)
   positive_bounded p b h =
-      subst (IsBounded (F p)) (sym (is.plus (absolute p) (left_over p b)) ∙ ap F (left_over_sum p b))
+      subst (IsBound (F p)) (sym (is.plus (absolute p) (left_over p b)) ∙ ap F (left_over_sum p b))
       (bounded_more (F p) (F (absolute p)) (F (left_over p b)) (positive_absolute p) (positive_plain (left_over p b) (left_over_plain p b h)))
 
 -- ---- the product with a variable
@@ -64,7 +65,7 @@ pub times_is_positive : (w : ℕ) → IsPositive (λ p. p *ᴾ variable w)
 times_is_positive w = record {
   plus = λ p q. +ᴾ-*ᴾ p q (variable w);
   nothing = 0ᴾ-*ᴾ (variable w);
-  on_term = λ m c. subst₂ IsBounded (sym (term_times_term m (single w) c (pos 1))) (ap (term (m · single w)) (size_times c 1) ∙ sym (term_times_term m (single w) (pos (unsigned_abs c)) (pos 1))) (bounded_term (m · single w) (c *ℤ pos 1));
+  on_term = λ m c. subst₂ IsBound (sym (term_times_term m (single w) c (pos 1))) (ap (term (m · single w)) (size_times c 1) ∙ sym (term_times_term m (single w) (pos (unsigned_abs c)) (pos 1))) (bounded_term (m · single w) (c *ℤ pos 1));
 }
 
 module _ (S : Space) (small : IsSmall S) (i : ℕ) (inside : i < S.p) where
@@ -89,29 +90,29 @@ module _ (S : Space) (small : IsSmall S) (i : ℕ) (inside : i < S.p) where
       go (independent j) e = by (low j e) (eqb i w) refl
       go (jet a J) e = (Some (single (number S (jet a (raise i J)))), sym (slope_of_jet S small w i a J inside e))
 
-  bounded_slope : (w : ℕ) (m : Monomial) (c : ℤ) → IsBounded (slope w *ᴾ term m c) (slope w *ᴾ term m (pos (unsigned_abs c)))
+  bounded_slope : (w : ℕ) (m : Monomial) (c : ℤ) → IsBound (slope w *ᴾ term m c) (slope w *ᴾ term m (pos (unsigned_abs c)))
   bounded_slope w m c = go (some_slope w).0 (some_slope w).1
     where
-      go : (o : Option Monomial) → IsSlope o (slope w) → IsBounded (slope w *ᴾ term m c) (slope w *ᴾ term m (pos (unsigned_abs c)))
-      go None q = subst (λ d. IsBounded (d *ᴾ term m c) (d *ᴾ term m (pos (unsigned_abs c)))) q (subst₂ IsBounded (sym (0ᴾ-*ᴾ (term m c))) (sym (0ᴾ-*ᴾ (term m (pos (unsigned_abs c))))) bounded_none)
-      go (Some f) q = subst (λ d. IsBounded (d *ᴾ term m c) (d *ᴾ term m (pos (unsigned_abs c)))) q (subst₂ IsBounded (sym (single_is c)) (sym (single_is (pos (unsigned_abs c)))) (bounded_term (f · m) c))
+      go : (o : Option Monomial) → IsSlope o (slope w) → IsBound (slope w *ᴾ term m c) (slope w *ᴾ term m (pos (unsigned_abs c)))
+      go None q = subst (λ d. IsBound (d *ᴾ term m c) (d *ᴾ term m (pos (unsigned_abs c)))) q (subst₂ IsBound (sym (0ᴾ-*ᴾ (term m c))) (sym (0ᴾ-*ᴾ (term m (pos (unsigned_abs c))))) none_bound)
+      go (Some f) q = subst (λ d. IsBound (d *ᴾ term m c) (d *ᴾ term m (pos (unsigned_abs c)))) q (subst₂ IsBound (sym (single_is c)) (sym (single_is (pos (unsigned_abs c)))) (bounded_term (f · m) c))
         where
           single_is : (z : ℤ) → term f (pos 1) *ᴾ term m z ≡ term (f · m) z
           single_is z = term_times_term f m (pos 1) z ∙ ap (term (f · m)) (*ℤ-idl z)
 
-  bounded_parts : (m : Monomial) (c : ℤ) (ps : List (ℕ × ℕ)) → IsBounded (sum_of_entries polynomials (part slope m c) ps) (sum_of_entries polynomials (part slope m (pos (unsigned_abs c))) ps)
-  bounded_parts m c [] = bounded_none
-  bounded_parts m c (p ∷ ps) = bounded_sum _ _ _ _ (subst (λ z. IsBounded (slope p.0 *ᴾ term (lower p.0 m) (c *ℤ pos p.1)) (slope p.0 *ᴾ term (lower p.0 m) z)) (size_times c p.1) (bounded_slope p.0 (lower p.0 m) (c *ℤ pos p.1))) (bounded_parts m c ps)
+  bounded_parts : (m : Monomial) (c : ℤ) (ps : List (ℕ × ℕ)) → IsBound (sum_of_entries polynomials (part slope m c) ps) (sum_of_entries polynomials (part slope m (pos (unsigned_abs c))) ps)
+  bounded_parts m c [] = none_bound
+  bounded_parts m c (p ∷ ps) = sum_bound _ _ _ _ (subst (λ z. IsBound (slope p.0 *ᴾ term (lower p.0 m) (c *ℤ pos p.1)) (slope p.0 *ᴾ term (lower p.0 m) z)) (size_times c p.1) (bounded_slope p.0 (lower p.0 m) (c *ℤ pos p.1))) (bounded_parts m c ps)
 
   pub total_is_positive : IsPositive (total_derivative S i)
   total_is_positive = record {
     plus = (total_is_derivation S i).plus;
     nothing = derived-0ᴾ (total_is_derivation S i);
-    on_term = λ m c. subst₂ IsBounded (sym (total_term S i m c)) (sym (total_term S i m (pos (unsigned_abs c)))) (bounded_parts m c m.list);
+    on_term = λ m c. subst₂ IsBound (sym (total_term S i m c)) (sym (total_term S i m (pos (unsigned_abs c)))) (bounded_parts m c m.list);
   }
 
 pub product_covered : (S : Space) (small : IsSmall S) (k : ℕ) (inside : k < S.p) (p d v : WholePolynomial) (w : ℕ) → d ≡ total_derivative S k p → v ≡ variable w → IsCovered (absolute d *ᴾ absolute v) (total_derivative S k (absolute p) *ᴾ variable w)
 product_covered S small k inside p d v w e f =
     let positive = total_is_positive S small k inside in
     subst₂ (λ x y. IsCovered (absolute x *ᴾ y) (total_derivative S k (absolute p) *ᴾ variable w)) (sym e) (sym (ap absolute f ∙ absolute_variable w))
-    (bounded_covered _ _ (positive_bounded (times_is_positive w) (absolute (total_derivative S k p)) (total_derivative S k (absolute p)) (absolute_bounded _ _ (positive_absolute positive p))))
+    ((positive_bounded (times_is_positive w) (absolute (total_derivative S k p)) (total_derivative S k (absolute p)) (covered_absolute _ _ (positive_absolute positive p))).covered)

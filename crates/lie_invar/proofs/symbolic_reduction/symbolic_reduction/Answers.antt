@@ -6,7 +6,6 @@ use Rattle.lie_jet.proofs.FormBounds.{IsFormBound}
 use Rattle.lie_jet.proofs.FormCauses.{coefficient_cause}
 use Rattle.lie_solved.specs.SolvedForms.{solved_equations}
 use Rattle.lie_invar.specs.SymbolicBulks.{degree_in_form, symbolic_reduction_bulk}
-use Rattle.lie_invar.proofs.Bounds.{bound_of}
 use Rattle.lie_invar.proofs.ReducedForms.{bulk_is, bulk_cause, form_bound, made_within, can_reduce}
 use Rattle.lie_invar.proofs.ReductionSteps.{reduction_bounded}
 use Rattle.lie_invar.proofs.symbolic_reduction.symbolic_reduction.Goals as goal
@@ -38,5 +37,5 @@ returns-clause-within c =
     let rs = solved_equations c.args.space c.args.rules.now in
     let e : ℕ → ℕ = λ w. degree_in_form w c.args.form.now in
     let B = symbolic_reduction_bulk rs c.args.form.now in
-    made_within c.in_ok-made.made B c.has_few_triples-2.result (subst (λ (E : LinearForm). IsFormBound E B) (sym c.in_ok-made.ensures.value) (form_bound rs e (λ a. bound_of _ _ (reduction_bounded rs e a)) c.args.form.now)) c.has_few_triples-2.ensures.few c.has_few_triples-2.ensures.many
+    made_within c.in_ok-made.made B c.has_few_triples-2.result (subst (λ (E : LinearForm). IsFormBound E B) (sym c.in_ok-made.ensures.value) (form_bound rs e (λ a. (reduction_bounded rs e a)) c.args.form.now)) c.has_few_triples-2.ensures.few c.has_few_triples-2.ensures.many
     (subst IsWithinLimits (c.in_ok-bulk.ensures.value ∙ bulk_is rs (solved_equations c.args.space c.args.sized.now) c.requires.sized c.args.form.now c.in_ok-sizes.sizes c.in_ok-sizes.ensures.sizes) (c.if-not-has_few_triples.ensures.few refl))
