@@ -1,5 +1,6 @@
 -- The definitions that the contracts cite, from the words of a call to what it leaves.
 pub mod Words
+pub mod Interface
 pub mod Terms
 pub mod Report
 pub mod Status

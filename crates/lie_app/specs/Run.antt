@@ -171,9 +171,9 @@ IsCauseOf held c ReadFault = Unit {0}
 IsCauseOf held c WriteFault = Unit {0}
 IsCauseOf held c Missing = IfSome held (λ files. file_at files (path_of c) ≡ None)
 
--- what each status says of the words and the files
+-- what each status says of the words and the files: words that are no command are answered by Usage, unless memory is wanting
 abbrev pub IsCause : Held → Option AnyCommand → Status → Type 0
-IsCause held None status = status ≡ Usage
+IsCause held None status = (status ≡ Usage) ⊎ (status ≡ NoMemory)
 IsCause held (Some c) status = IsCauseOf held c status
 
 -- ---- which status is due

@@ -11,7 +11,7 @@ use crate::words::{Command, command_of};
 use crate::work::text_of;
 use lie_gram::{BadFile, BadKind};
 use lie_outer::{FileFail, Files, Sink, SinkFail};
-use std::alloc::Global;
+use std::alloc::{AllocError, Global};
 
 /// A file has no more bytes than this.
 const MOST_BYTES: usize = 65_536;
@@ -90,9 +90,10 @@ fn perform<F: Files, O: Sink>(alloc: Global, words: &[String], files: &mut F, ou
     ensures out { LeavesOut O.taken O.fault_count O.starved_count out.old out.new
         (IsOutput (F.held files.old) (command_of (texts words.now))) result }
 {
-    match command_of(words) {
-        Some(command) => obey(alloc, &command, files, out),
-        None => Status::Usage,
+    match command_of(alloc, words) {
+        Ok(Some(command)) => obey(alloc, &command, files, out),
+        Ok(None) => Status::Usage,
+        Err(AllocError) => Status::NoMemory,
     }
 }
 
@@ -117,8 +118,9 @@ pub fn run<F: Files, O: Sink, E: Sink>(
     out: &mut O,
     err: &mut E,
 ) -> Status
-    // Usage comes exactly where the words are wrong. Missing, Bad, Not and Past tell what is so of the file: it is not there, it or
-    // the field has this first fault, its system has no solved form for this cause, an action of the work is past this limit.
+    // Usage comes exactly where the words are wrong, unless memory is wanting. Missing, Bad, Not and Past tell what is so of the file:
+    // it is not there, it or the field has this first fault, its system has no solved form for this cause, an action of the work is
+    // past this limit.
     ensures cause { IsCause (F.held files.old) (command_of (texts words.now)) result }
 
     // A fault of reading comes only where the count rose.

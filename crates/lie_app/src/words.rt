@@ -1,6 +1,12 @@
 // The words of a command line, and the command that they are.
-ghost use Rattle.std.specs.Prelude.{◌≡◌, ◌<◌, ◌+◌, ◌++◌, [], length, get_or, option_map};
-ghost use Rattle.lie_app.specs.Words.{texts, is_option, in_words, parted, determine_of, check_of, command_of};
+ghost use Rattle.std.specs.Prelude.{◌≡◌, IfOk, option_map, false};
+ghost use Rattle.clap.specs.Words.{app_of, found_of, rows_of, rule_of, subcommand_rows_of};
+ghost use Rattle.lie_app.specs.Words.{texts, in_words, command_of};
+ghost use Rattle.lie_app.specs.Interface.{argument, interface, named_met, command_met};
+
+use clap::error::ErrorKind;
+use clap::{Arg, ArgMatches};
+use std::alloc::{AllocError, Global};
 
 /// A command, with its arguments.
 #[derive(Clone, Copy, Debug, PartialEq, Eq)]
@@ -11,77 +17,63 @@ pub enum Command<T> {
     Check(T, T),
 }
 
-// It begins with a dash, and isn't the dash alone.
-fn is_option(word: &str) -> bool
-    ensures { result ≡ is_option word.now }
+// An argument that may not be left out.
+fn argument<'a>(alloc: Global, id: &'a str) -> Arg<'a>
+    ensures rule { rule_of result ≡ argument id.entry.now }
+    ensures local { result.global ≡ false }
 {
-    match word.as_bytes() {
-        [first, _, ..] => *first == b'-',
-        _ => false,
+    Arg::new(alloc, id).required(true)
+}
+
+// What the words may be: one of two commands, with its arguments, and no call for help.
+fn interface<'a>(alloc: Global) -> Result<clap::Command<'a>, AllocError>
+    ensures { IfOk result (λ c. app_of c ≡ interface) }
+{
+    let determine = clap::Command::new(alloc, "determine").arg(argument(alloc, "path"))?;
+    let check = clap::Command::new(alloc, "check")
+        .arg(argument(alloc, "path"))?
+        .arg(argument(alloc, "field"))?;
+    clap::Command::new(alloc, "lie")
+        .no_binary_name(true)
+        .disable_help_flag(true)
+        .disable_help_subcommand(true)
+        .subcommand_required(true)
+        .subcommand(determine)?
+        .subcommand(check)
+}
+
+// The command of a name, with the values of its arguments.
+fn named_met<'a>(name: &str, arguments: &ArgMatches<'a>) -> Option<Command<&'a str>>
+    ensures { option_map (in_words (λ w. w.now)) result ≡ named_met name.now (rows_of (found_of arguments.now)) }
+{
+    let path = arguments.get_str("path")?;
+    match name {
+        "determine" => Some(Command::Determine(path)),
+        "check" => Some(Command::Check(path, arguments.get_str("field")?)),
+        _ => None,
     }
 }
 
-// The words before the word of two dashes, and those behind it; None where an option is before.
-fn parted(words: &[String]) -> Option<(&[String], &[String])>
-    ensures { option_map (λ p. (texts p.0.now, texts p.1.now)) result ≡ parted (texts words.now) }
+// The command that was met, with the values of its arguments.
+fn command_met<'a>(found: &ArgMatches<'a>) -> Option<Command<&'a str>>
+    ensures { option_map (in_words (λ w. w.now)) result ≡ command_met (subcommand_rows_of found.now) }
 {
-    for (i, word) in words.iter().enumerate() {
-        if word.as_str() == "--" {
-            return Some((&words[..i], &words[i + 1..]));
-        }
-        if is_option(word.as_str()) {
-            return None;
-        }
-    }
-    Some((words, &[]))
-}
-
-// The argument with a number, counted from 0, of those before the dashes and those behind them.
-fn argument<'a>(before: &'a [String], behind: &'a [String], i: usize) -> &'a str
-    requires { i < length before.now + length behind.now }
-    ensures { result.now ≡ get_or (texts before.now ++ texts behind.now) i [] }
-{
-    if i < before.len() {
-        before[i].as_str()
-    } else {
-        behind[i - before.len()].as_str()
-    }
-}
-
-// The command of one argument.
-fn determine_of<'a>(before: &'a [String], behind: &'a [String]) -> Option<Command<&'a str>>
-    ensures { option_map (in_words (λ w. w.now)) result ≡ determine_of (texts before.now ++ texts behind.now) }
-{
-    if before.len() + behind.len() == 1 {
-        Some(Command::Determine(argument(before, behind, 0)))
-    } else {
-        None
-    }
-}
-
-// The command of two arguments.
-fn check_of<'a>(before: &'a [String], behind: &'a [String]) -> Option<Command<&'a str>>
-    ensures { option_map (in_words (λ w. w.now)) result ≡ check_of (texts before.now ++ texts behind.now) }
-{
-    if before.len() + behind.len() == 2 {
-        Some(Command::Check(argument(before, behind, 0), argument(before, behind, 1)))
-    } else {
-        None
-    }
+    let (name, arguments) = found.subcommand()?;
+    named_met(name, arguments)
 }
 
 /// The command that the words are: `determine` and a path, or `check`, a path and the text of a field; `None` for any other words. A
-/// word `--` makes all later words arguments; before it a word that begins with a dash, and isn't the dash alone, is refused.
-pub fn command_of(words: &[String]) -> Option<Command<&str>>
-    ensures { option_map (in_words (λ w. w.now)) result ≡ command_of (texts words.now) }
+/// word `--` makes all later words arguments; before it a word that begins with a dash, and isn't the dash alone, is refused. It fails
+/// only for want of memory.
+pub fn command_of<'a>(
+    alloc: Global,
+    words: &'a [String],
+) -> Result<Option<Command<&'a str>>, AllocError>
+    ensures { IfOk result (λ c. option_map (in_words (λ w. w.now)) c ≡ command_of (texts words.now)) }
 {
-    let (name, rest) = words.split_first()?;
-    let (before, behind) = parted(rest)?;
-    if name.as_str() == "determine" {
-        determine_of(before, behind)
-    } else if name.as_str() == "check" {
-        check_of(before, behind)
-    } else {
-        None
+    match interface(alloc)?.try_get_matches_from(words) {
+        Ok(found) => Ok(command_met(&found)),
+        Err(error) if error.kind() == ErrorKind::OutOfMemory => Err(AllocError),
+        Err(_) => Ok(None),
     }
 }
