@@ -1,7 +1,7 @@
 -- Lists that grow element by element, as loops make them.
 use Rattle.std.specs.Prelude.{ℕ, ℤ, ◌≡◌, ◌+◌, ◌∷◌, ◌++◌, [], List, Bool, true, false, cond, map, filter, Some}
-use Rattle.std.proofs.Common.{refl, sym, ap, ap₂, ◌∙◌, arith}
-use Rattle.std.proofs.lemmas.List.{map-append, append-nil}
+use Rattle.std.proofs.Common.{refl, sym, ap, ◌∙◌, arith}
+use Rattle.std.proofs.lemmas.List.{append-nil}
 use Rattle.std.proofs.lemmas.List.FromFn.{filter_of_map_range_with_len_more}
 use Rattle.std.specs.List.{range_with_len}
 use Rattle.lie_math.specs.Monomial.{Monomial}
@@ -9,7 +9,6 @@ use Rattle.lie_jet.specs.declared.derivative.Der.{Der}
 use Rattle.lie_jet.specs.Derivatives.{derivative_of}
 use Rattle.lie_lin.specs.Forms.{triples_of}
 use Rattle.lie_gram.specs.declared.printed_term.Term.{Term}
-use Rattle.lie_gram.specs.Printing.{PrintedTerm}
 use Rattle.lie_gram.specs.PrintedTerms.{printed}
 use Rattle.lie_gram.proofs.PrintedLists.{terms-push}
 use Rattle.lie_invar.proofs.ValidOpening.{map_itself}
