@@ -1,5 +1,5 @@
 -- The worked values, by computing.
-use Rattle.std.specs.Prelude.{◌≡◌, ℕ, zero, suc, ◌⊎◌, ltb, true, List, [], ◌∷◌, ℤ, pos, negsuc}
+use Rattle.std.specs.Prelude.{◌≡◌, ℕ, zero, suc, ◌⊎◌, ltb, true, List, [], ◌∷◌, ℤ, pos, negsuc, ◌<◌}
 use Rattle.std.proofs.Common.{refl, sym, subst, arith, inl, inr}
 use Rattle.std.specs.List.{AllByRecursion as Every, Contains}
 use Rattle.std.specs.List.Sorted.{IsStrictlySortedBy}
@@ -15,7 +15,10 @@ use Rattle.lie_math.proofs.Variables.{in-constant}
 use Rattle.lie_systems.specs.EquationOrder.{equation_cmp}
 use Rattle.lie_systems.specs.Normalised.{primitive, common_divisor, each_exponent, IsNormalised}
 use Rattle.lie_systems.specs.ValidSystems.{IsOwned, IsFormOf, HasVariablesBelow, count}
-use Rattle.lie_systems.specs.WorkedValues.{TriplesOfSum, DividedEquation, DerivativeAlone, LineSystemIsValid, line_equations, line_system}
+use Rattle.lie_systems.specs.WorkedValues.{TriplesOfSum, DividedEquation, DerivativeAlone, LineSystemIsValid, NextNumberIsFree, VariablesAreOfTheSpace, OrdersUpTo64AreWithin, line_equations, line_system, derivative_of_order, triple}
+use Rattle.lie_math.specs.Counts.{order}
+use Rattle.std.specs.List.{Any}
+use Rattle.lie_systems.specs.Triples.{Triple, triples}
 
 pub triples_of_sum : TriplesOfSum
 unfolding finite.of finite.plus finite.none finite.term
@@ -117,3 +120,20 @@ line_system_is_valid = record {
   general = in_general;
   components = refl;
 }
+
+pub next_number_is_free : NextNumberIsFree
+next_number_is_free h = let k : 2 < 2 = h.below.1.0 in omega arith
+
+pub variables_are_of_the_space : VariablesAreOfTheSpace
+variables_are_of_the_space h = let k : 2 < 2 = h.variables.1.0.1.1.0 in omega arith
+
+listed_order : (n : ℕ) → triples (derivative_of_order n) ≡ triple (pos 1) [] 1 (n ∷ []) ∷ []
+unfolding finite.of finite.plus finite.none finite.term
+listed_order n = refl
+
+pub orders_up_to_64_are_within : OrdersUpTo64AreWithin
+orders_up_to_64_are_within = (λ h. none (subst (Any (λ (t : Triple). 64 < order t.0.counts)) (listed_order 64) h), subst (Any (λ (t : Triple). 64 < order t.0.counts)) (sym (listed_order 65)) (0, triple (pos 1) [] 1 (65 ∷ []), omega arith, refl, omega arith))
+  where
+    none : Any (λ (t : Triple). 64 < order t.0.counts) (triple (pos 1) [] 1 (64 ∷ []) ∷ []) → ⊥
+    none (zero, t, lt, is, past) = let k : 64 < order (64 ∷ []) = subst (λ (t : Triple). 64 < order t.0.counts) (sym is) past in omega arith
+    none (suc i, t, lt, is, past) = absurd (omega arith)

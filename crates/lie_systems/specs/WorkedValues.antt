@@ -6,6 +6,7 @@ use Rattle.lie_math.specs.LinearSystem.{LinearSystem}
 use Rattle.lie_systems.specs.Triples.{Triple, triples, sum_of_triples}
 use Rattle.lie_systems.specs.Normalised.{primitive}
 use Rattle.lie_systems.specs.ValidSystems.{IsValid}
+use Rattle.lie_systems.specs.Bulk.{HasHighOrder}
 
 -- a number, the exponents of a monomial, and the unknown and the counts of a derivative
 abbrev pub triple : ℤ → List (ℕ × ℕ) → ℕ → List ℕ → Triple
@@ -49,3 +50,19 @@ line_system = record {
 
 abbrev pub LineSystemIsValid : Type 0
 LineSystemIsValid = IsValid 2 line_system
+
+-- a system whose next number is that of an unknown is not valid
+abbrev pub NextNumberIsFree : Type 0
+NextNumberIsFree = ¬ (IsValid 2 (record line_system { next = 2 }))
+
+-- an unknown of a third variable is not one of a valid system over two
+abbrev pub VariablesAreOfTheSpace : Type 0
+VariablesAreOfTheSpace = ¬ (IsValid 2 (record line_system { unknowns = record { number = 1; variables = 0 ∷ 1 ∷ [] } ∷ record { number = 2; variables = 0 ∷ 2 ∷ [] } ∷ [] }))
+
+-- the derivative of f1 by x, taken n times
+abbrev pub derivative_of_order : ℕ → LinearForm
+derivative_of_order n = sum_of_triples (triple (pos 1) [] 1 (n ∷ []) ∷ [])
+
+-- the order 64 is within the limits, and 65 is past them
+abbrev pub OrdersUpTo64AreWithin : Type 0
+OrdersUpTo64AreWithin = ¬ (HasHighOrder (derivative_of_order 64)) × HasHighOrder (derivative_of_order 65)

@@ -1,6 +1,6 @@
 //! Worked values, each a law.
 
-ghost use Rattle.lie_systems.specs.WorkedValues.{TriplesOfSum, DividedEquation, DerivativeAlone, LineSystemIsValid};
+ghost use Rattle.lie_systems.specs.WorkedValues.{TriplesOfSum, DividedEquation, DerivativeAlone, LineSystemIsValid, NextNumberIsFree, VariablesAreOfTheSpace, OrdersUpTo64AreWithin};
 
 /// `2*f1 + x*f2_x - f1` has the triples `x*f2_x` and `f1`, in this order.
 pub fn triples_of_sum()
@@ -20,4 +20,19 @@ pub fn derivative_alone()
 /// The determining equations of `y_xx = 0` are a valid system in this order: `f1_yy`, `f2_xx`, `f2_yy - 2*f1_xy`, `2*f2_xy - f1_xx`.
 pub fn line_system_is_valid()
     ensures { LineSystemIsValid }
+{}
+
+/// A system whose next number is that of an unknown is not valid.
+pub fn next_number_is_free()
+    ensures { NextNumberIsFree }
+{}
+
+/// A system over two variables with an unknown of a third is not valid.
+pub fn variables_are_of_the_space()
+    ensures { VariablesAreOfTheSpace }
+{}
+
+/// A derivative of order 64 is within the limits, and one of order 65 is past them.
+pub fn orders_up_to_64_are_within()
+    ensures { OrdersUpTo64AreWithin }
 {}
