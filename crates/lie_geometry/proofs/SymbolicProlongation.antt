@@ -4,7 +4,7 @@ use Rattle.std.proofs.Common.{refl, sym, ap, ap₂, ◌∙◌, arith, lt-ltb}
 use mathlib.Core.Path.{fun_ext}
 use Rattle.lie_math.specs.FiniteSumLaws as finite_laws
 use Rattle.lie_math.specs.Canonical.{sum_of_entries-map}
-use Rattle.lie_math.specs.Counts.{order, raise, partials_from, partials, Derivative, raised, derived}
+use Rattle.lie_math.specs.Counts.{raise, partials_from, partials, Derivative, raised, derived}
 use Rattle.lie_math.specs.Derivation.{sum_of, numbers_below}
 use Rattle.lie_math.specs.FiniteSumLaws.{plus_idl, plus_comm}
 use Rattle.lie_math.specs.LinearForm.{forms, LinearForm, ◌+ᶠ◌, form_term, apply}
@@ -13,7 +13,7 @@ use Rattle.lie_math.specs.Polynomial.{terms, WholePolynomial, 0ᴾ, ◌+ᴾ◌, 
 use Rattle.lie_math.specs.PolynomialRing.{*ᴾ_comm, *ᴾ-dist, *ᴾ_assoc, polynomial_ring}
 use Rattle.lie_math.specs.SortedSum.{sum_of_entries}
 use Rattle.lie_math.proofs.ChainRule.{chain_rule_below, derivation_is_derivation, derivation-variable}
-use Rattle.lie_math.proofs.Counts.{partial_times, partials_raise}
+use Rattle.lie_math.proofs.Counts.{partial_times, partials_raise, order_zeros}
 use Rattle.lie_math.proofs.Derivation.{derived-0ᴾ}
 use Rattle.lie_math.proofs.LinearForm.{apply_plus, apply_term, apply_none, apply_unknown, apply_times}
 use Rattle.lie_math.proofs.Ring.{plus_idr, nil_times}
@@ -45,16 +45,9 @@ pub replicate_length : (n : ℕ) → length {A = ℕ} (replicate n 0) ≡ n
 replicate_length zero = refl
 replicate_length (suc n) = ap suc (replicate_length n)
 
-pub replicate_order : (n : ℕ) → order (replicate n 0) ≡ 0
-replicate_order zero = refl
-replicate_order (suc n) = plain (order (replicate n 0)) ∙ replicate_order n
-  where
-    plain : (a : ℕ) → 0 + a ≡ a
-    plain a = omega arith
-
 replicate_rank : (n : ℕ) → rank (replicate n 0) ≡ 0
 replicate_rank zero = refl
-replicate_rank (suc n) = ap₂ (λ a b. sum_below (ways (length {A = ℕ} (replicate n 0))) a + b) (replicate_order n) (replicate_rank n)
+replicate_rank (suc n) = ap₂ (λ a b. sum_below (ways (length {A = ℕ} (replicate n 0))) a + b) (order_zeros n) (replicate_rank n)
 
 sum_of-join : (p q : ℕ) (f : ℕ → WholePolynomial) → sum_of (numbers_below (p + q)) f ≡ sum_of (numbers_below q) (λ b. f (p + b)) +ᴾ sum_of (numbers_below p) f
 sum_of-join p zero f = ap (λ n. sum_of (numbers_below n) f) (plain p) ∙ sym (plus_idl terms _)
@@ -80,7 +73,7 @@ module _ (S : Space) (some_p : 0 < S.p) (some_q : 0 < S.q) where
   pub number_none : (a : ℕ) → number S (jet a (replicate S.p 0)) ≡ S.p + a
   unfolding number
   number_none a =
-      ap₂ (λ n r. S.p + (jets_below S n + (a * ways S.p n + r))) (replicate_order S.p) (replicate_rank S.p)
+      ap₂ (λ n r. S.p + (jets_below S n + (a * ways S.p n + r))) (order_zeros S.p) (replicate_rank S.p)
       ∙ ap (λ w. S.p + (jets_below S 0 + (a * w + 0))) (ways_none S.p) ∙ plain S.p S.q a
     where
       plain : (p q a : ℕ) → p + (q * 0 + (a * 1 + 0)) ≡ p + a

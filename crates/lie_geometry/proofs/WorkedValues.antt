@@ -14,7 +14,7 @@ use Rattle.lie_geometry.specs.Invariance.{applied_prolongation, IsInvariant}
 use Rattle.lie_geometry.specs.Prolongation.{total_derivative, prolonged_coefficient}
 use Rattle.lie_geometry.specs.SolvedEquations.{reduced_by, reduced}
 use Rattle.lie_geometry.specs.SymbolicProlongation.{symbolic_total, symbolic_coefficient, symbolic_application}
-use Rattle.lie_geometry.specs.WorkedValues.{written, JetNumbers, TotalOfProduct, plane_field, FieldProlonged, growth, GrowthInvariant, SymbolicProlonged, GrowthDetermined}
+use Rattle.lie_geometry.specs.WorkedValues.{written, JetNumbers, TotalOfProduct, plane_field, FieldProlonged, growth, GrowthInvariant, SymbolicProlonged, GrowthDetermined, PlaneUnknowns}
 
 pub jet_numbers : JetNumbers
 unfolding number
@@ -79,3 +79,6 @@ symbolic_prolonged = refl
 pub growth_determined : GrowthDetermined
 unfolding symbolic_application symbolic_coefficient symbolic_total total_derivative derivation coordinate number partial reduced_by part restrict ◌*ᴾ◌ finite.of finite.plus finite.none finite.term finite.put
 growth_determined = refl
+
+pub plane_unknowns : PlaneUnknowns
+plane_unknowns = (refl, refl)

@@ -5,7 +5,7 @@ use Rattle.lie_math.specs.Monomial.{unit, monomial_of}
 use Rattle.lie_math.specs.Polynomial.{WholePolynomial, polynomial_of, 0ᴾ, constant, variable}
 use Rattle.lie_math.specs.VectorField.{VectorField, component}
 use Rattle.lie_geometry.specs.Coordinates.{Space, jet, number}
-use Rattle.lie_geometry.specs.DeterminingEquations.{determining_equation}
+use Rattle.lie_geometry.specs.DeterminingEquations.{determining_equation, determining_system}
 use Rattle.lie_geometry.specs.FirstOrder.{one_of_each, first_order_equation}
 use Rattle.lie_geometry.specs.Invariance.{IsInvariant}
 use Rattle.lie_geometry.specs.Prolongation.{total_derivative, prolonged_coefficient}
@@ -65,3 +65,9 @@ GrowthDetermined =
     (determining_equation one_of_each growth (first_order_equation (variable 1)) unit).list
     ≡ entry 2 (1 ∷ []) (([], pos 1) ∷ []) ∷ entry 2 (0 ∷ 1 ∷ []) (((1, 1) ∷ [], pos 1) ∷ []) ∷ entry 1 (1 ∷ []) (((1, 1) ∷ [], negsuc 0) ∷ []) ∷ entry 1 (0 ∷ 1 ∷ []) (((1, 2) ∷ [], negsuc 0) ∷ [])
     ∷ entry 2 [] (([], negsuc 0) ∷ []) ∷ []
+
+-- for p = q = 1 the unknowns of the determining system are 1 and 2, of x and u each, and the next number is 3
+abbrev pub PlaneUnknowns : Type 0
+PlaneUnknowns =
+    ((determining_system one_of_each []).unknowns ≡ record { number = 1; variables = 0 ∷ 1 ∷ [] } ∷ record { number = 2; variables = 0 ∷ 1 ∷ [] } ∷ [])
+    × ((determining_system one_of_each []).next ≡ 3)

@@ -1,6 +1,6 @@
 //! Worked values, each a law that computes.
 
-ghost use Rattle.lie_geometry.specs.WorkedValues.{FieldProlonged, GrowthDetermined, GrowthInvariant, JetNumbers, SymbolicProlonged, TotalOfProduct};
+ghost use Rattle.lie_geometry.specs.WorkedValues.{FieldProlonged, GrowthDetermined, GrowthInvariant, JetNumbers, PlaneUnknowns, SymbolicProlonged, TotalOfProduct};
 
 /// For p = q = 1 the coordinates u, u_x, u_xx and that of order 12 have the numbers 1, 2, 3 and 13; for p = 2 and q = 1 the coordinates u_x, u_y, u_xx, u_xy, u_yy have 3 to 7.
 pub fn jet_numbers()
@@ -30,4 +30,9 @@ pub fn symbolic_prolonged()
 /// The one determining equation of `u_x = u` is `f2_x + u*f2_u - u*f1_x - u^2*f1_u - f2 = 0`.
 pub fn growth_determined()
     ensures { GrowthDetermined }
+{}
+
+/// For p = q = 1 the unknowns of a determining system are 1 and 2, of x and u each, and the next number is 3.
+pub fn plane_unknowns()
+    ensures { PlaneUnknowns }
 {}

@@ -6,7 +6,7 @@ use Rattle.lie_math.specs.Counts.{order, raise}
 use Rattle.lie_math.specs.PartialDerivative.{partial}
 use Rattle.lie_math.specs.Polynomial.{WholePolynomial, 0ᴾ, constant, variable}
 use Rattle.lie_math.proofs.PartialDerivation.{partial-itself, partial-other}
-use Rattle.lie_math.proofs.Counts.{order_raise}
+use Rattle.lie_math.proofs.Counts.{order_raise, order_zeros}
 use Rattle.lie_geometry.specs.Coordinates.{Space, Coordinate, IsCoordinate, order_of, jet, number, coordinate, coordinates_up_to}
 use Rattle.lie_geometry.proofs.Numbers.{coordinate_is, count_rises}
 use Rattle.lie_geometry.proofs.NumberOrder.{order_below}
@@ -15,7 +15,6 @@ use Rattle.lie_geometry.specs.Prolongation.{jet_variable, total_derivative}
 use Rattle.lie_jet.specs.Jets.{coordinate_of, IsJet, IsSmall}
 use Rattle.lie_jet.specs.declared.jet.Jet.{Jet}
 use Rattle.lie_jet.proofs.NumberedJets.{rest_zeros}
-use Rattle.lie_geometry.proofs.SymbolicProlongation.{replicate_order}
 
 -- one more at a place of the first p
 pub take_raised : (p i : ℕ) (xs : List ℕ) → i < p → i < length xs → take p (slice_set xs i (slice_index xs i + 1)) ≡ raise i (take p xs)
@@ -76,7 +75,7 @@ take_zeros (suc (suc (suc (suc zero)))) h = refl
 take_zeros (suc (suc (suc (suc (suc p))))) h = absurd (omega arith)
 
 pub is_dependent : (S : Space) (b : ℕ) → IsSmall S → b < S.q → IsJet S 11 (record { dep = b; counts = 0 ∷ 0 ∷ 0 ∷ 0 ∷ [] })
-is_dependent S b small h = record { space = small; dependent = h; four = refl; rest = rest_zeros S.p small.few_p; low = subst (λ J. order J ≤ 11) (sym (take_zeros S.p small.few_p)) (let e = replicate_order S.p in omega arith) }
+is_dependent S b small h = record { space = small; dependent = h; four = refl; rest = rest_zeros S.p small.few_p; low = subst (λ J. order J ≤ 11) (sym (take_zeros S.p small.few_p)) (let e = order_zeros S.p in omega arith) }
 
 pub dependent_raised : (S : Space) (b i n : ℕ) (c : Coordinate) (p : WholePolynomial) → IsSmall S → c ≡ jet b (raise i (take S.p (0 ∷ 0 ∷ 0 ∷ 0 ∷ []))) → n ≡ number S c → p ≡ variable n → p ≡ jet_variable S b (raise i (replicate S.p 0))
 dependent_raised S b i n c p small e h q = q ∙ ap variable (h ∙ ap (number S) (e ∙ ap (λ J. jet b (raise i J)) (take_zeros S.p small.few_p)))

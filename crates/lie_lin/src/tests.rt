@@ -8,7 +8,7 @@ use crate::{
     triples,
 };
 use lie_jet::{Der, Space};
-use lie_ring::{Mono, NoMemory, Ring, Whole};
+use lie_ring::{Mono, NoMemory, PastKind, PolyFail, Ring, Whole};
 use std::alloc::Global;
 use std::cmp::Ordering;
 use std::test::Fail;
@@ -45,6 +45,29 @@ fn sum_is_gathered_and_printed_in_order(rt: HostRuntime) -> Result<(), Fail> {
     assert_eq!(rt; parts[1].1.pairs().len(), 0);
     assert_eq!(rt; parts[1].2.get(), 1);
     assert_eq!(rt; lead(&form), Some(der(2, 1)));
+    Ok(())
+}
+
+#[test]
+fn sum_past_the_numbers_is_told(rt: HostRuntime) -> Result<(), Fail> {
+    let alloc = rt.alloc();
+    let most = Whole::new(i128::MAX).ok_or("2^127 - 1")?;
+    for number in [most, most.neg()] {
+        let mut list = Vec::new(alloc);
+        for (der, number) in [(der(1, 0), most), (der(2, 1), number)] {
+            list.push((der, Mono::one(alloc), number))
+                .map_err(|_| "memory")?;
+        }
+        let form = of_triples(alloc, list.as_slice()).map_err(|_| "two derivatives")?;
+        assert_eq!(rt; triple_count(&form), 2);
+        list.push((der(1, 0), Mono::one(alloc), number))
+            .map_err(|_| "memory")?;
+        let past = match of_triples(alloc, list.as_slice()) {
+            Err(PolyFail::Past(kind)) => kind == PastKind::Coefficient,
+            _ => false,
+        };
+        assert!(rt; past);
+    }
     Ok(())
 }
 

@@ -1,6 +1,6 @@
 -- The laws of counts: one more derivative, zeros at the end, and the order of derivatives.
 use Rattle.std.specs.Fn.{iterate}
-use Rattle.std.specs.Prelude.{◌≡◌, ℕ, zero, suc, ◌+◌, Bool, true, false, cond, eqb, List, [], ◌∷◌, length}
+use Rattle.std.specs.Prelude.{◌≡◌, ℕ, zero, suc, ◌+◌, Bool, true, false, cond, eqb, List, [], ◌∷◌, length, replicate}
 use Rattle.std.proofs.Common.{refl, sym, ap, ap₂, ◌∙◌, arith, Less, Greater, eqb-true}
 use Rattle.std.proofs.Math.Dec.{eqb-suc-zero}
 use Rattle.std.specs.Cmp.{nat_cmp_is}
@@ -68,6 +68,10 @@ order_raise (suc i) (c ∷ J) = ap (λ n. c + n) (order_raise i J) ∙ moved c (
     moved a b = omega arith
 
 -- ---- zeros at the end
+pub order_zeros : (n : ℕ) → order (replicate n 0) ≡ 0
+order_zeros zero = refl
+order_zeros (suc n) = let h = order_zeros n in omega arith
+
 order_before : (c : ℕ) (J : List ℕ) → order (before_counts c J) ≡ c + order J
 order_before c [] = go (eqb c 0) refl
   where

@@ -1,7 +1,8 @@
 -- The worked values, by computing, and what the system f_x = 0 gives.
-use Rattle.std.specs.Prelude.{◌≡◌, ℕ, zero, suc, [], ◌∷◌, get_or, pos}
-use Rattle.std.proofs.Common.{refl, sym, ap, ◌∙◌, arith}
+use Rattle.std.specs.Prelude.{◌≡◌, ℕ, zero, suc, ◌≤◌, Bool, true, false, cond, [], ◌∷◌, get_or, pos}
+use Rattle.std.proofs.Common.{refl, sym, ap, subst, ◌∙◌, arith}
 use Rattle.lie_math.specs.FiniteSum as finite
+use Rattle.lie_math.specs.Monomial.{exponent, power_of}
 use Rattle.lie_math.specs.FiniteSumLaws.{same_list}
 use Rattle.lie_math.specs.Polynomial.{WholePolynomial, terms, constant, variable, 0ᴾ, ◌*ᴾ◌}
 use Rattle.lie_math.specs.PolynomialRing.{one-*ᴾ}
@@ -15,8 +16,10 @@ use Rattle.lie_math.proofs.LinearForm.{apply_none, apply_term, apply_unknown}
 use Rattle.lie_math.proofs.RationalPolynomial.{same_rational-multiple, same_rational-swapped}
 use Rattle.lie_math.specs.LinearSystem.{Gives, has}
 use Rattle.lie_math.specs.LinearForm.{apply, no_form}
-use Rattle.lie_math.specs.WorkedValues.{SquareOfSum, OrderOfTerms, DerivativeOfSum, CoefficientOfX, HalfOfX, constant_system, ConstantFieldsGiven}
+use Rattle.lie_math.specs.WorkedValues.{SquareOfSum, OrderOfTerms, DerivativeOfSum, CoefficientOfX, HalfOfX, constant_system, ConstantFieldsGiven, DegreeInEach, ExponentsUpTo65535AreLow}
 use Rattle.lie_math.proofs.Limits.{one_apart}
+use Rattle.lie_math.proofs.Monomial.{exponent-power_of}
+use Rattle.std.specs.Ordering.{eq_by_cmp, nat_cmp}
 
 pub square_of_sum : SquareOfSum
 unfolding ◌*ᴾ◌ finite.of finite.plus finite.none finite.term
@@ -67,3 +70,17 @@ not_given g =
 
 pub constant_fields_given : ConstantFieldsGiven
 constant_fields_given = (given, not_given)
+
+pub degree_in_each : DegreeInEach
+unfolding finite.of
+degree_in_each = refl
+
+pub exponents_up_to_65535_are_low : ExponentsUpTo65535AreLow
+exponents_up_to_65535_are_low = (λ v. subst (λ e. e ≤ 65535) (sym (exponent-power_of 0 65535 v)) (low (eq_by_cmp nat_cmp v 0)), high)
+  where
+    low : (t : Bool) → cond t 65535 0 ≤ 65535
+    low true = omega arith
+    low false = omega arith
+
+    high : ¬ ((v : ℕ) → exponent (power_of 0 65536) v ≤ 65535)
+    high h = let k : 65536 ≤ 65535 = subst (λ e. e ≤ 65535) (exponent-power_of 0 65536 0) (h 0) in omega arith

@@ -1,9 +1,10 @@
 -- Worked values. The variables with the numbers 0 and 1 are x and u.
 use Rattle.std.specs.Prelude.{◌≡◌, ℕ, List, [], ◌∷◌, map, ℤ, pos}
-use Rattle.lie_math.specs.Monomial.{monomial_of}
+use Rattle.lie_math.specs.Monomial.{monomial_of, power_of}
+use Rattle.lie_math.specs.Limits.{HasLowExponents}
 use Rattle.lie_math.specs.Polynomial.{WholePolynomial, polynomial_of, constant, variable, ◌+ᴾ◌, ◌*ᴾ◌}
 use Rattle.lie_math.specs.PartialDerivative.{partial}
-use Rattle.lie_math.specs.Powers.{power_coefficient}
+use Rattle.lie_math.specs.Powers.{power_coefficient, degree_in}
 use Rattle.lie_math.specs.RationalPolynomial.{IsSameRational}
 use Rattle.lie_math.specs.LinearForm.{form_term, unknown_form}
 use Rattle.lie_math.specs.LinearSystem.{LinearSystem, Gives}
@@ -46,3 +47,11 @@ constant_system = record {
 -- it gives 3/2*d_x and not x*d_x
 abbrev pub ConstantFieldsGiven : Type 0
 ConstantFieldsGiven = Gives constant_system (record { denominator = 2; parts = constant (pos 3) ∷ [] }) × (¬ (Gives constant_system (record { denominator = 1; parts = variable 0 ∷ [] })))
+
+-- the degree of x*u^2 + 3*x is 1 in x and 2 in u
+abbrev pub DegreeInEach : Type 0
+DegreeInEach = map (λ v. degree_in v (written (((0, 1) ∷ (1, 2) ∷ [], pos 1) ∷ ((0, 1) ∷ [], pos 3) ∷ []))) (0 ∷ 1 ∷ []) ≡ 1 ∷ 2 ∷ []
+
+-- the exponent 65,535 is within the limits, and 65,536 is past them
+abbrev pub ExponentsUpTo65535AreLow : Type 0
+ExponentsUpTo65535AreLow = HasLowExponents (power_of 0 65535) × (¬ (HasLowExponents (power_of 0 65536)))

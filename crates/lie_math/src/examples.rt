@@ -1,6 +1,6 @@
 //! Worked values, each a law.
 
-ghost use Rattle.lie_math.specs.WorkedValues.{SquareOfSum, OrderOfTerms, DerivativeOfSum, CoefficientOfX, HalfOfX, ConstantFieldsGiven};
+ghost use Rattle.lie_math.specs.WorkedValues.{SquareOfSum, OrderOfTerms, DerivativeOfSum, CoefficientOfX, HalfOfX, ConstantFieldsGiven, DegreeInEach, ExponentsUpTo65535AreLow};
 
 /// `(x + u)^2` is `x^2 + 2*x*u + u^2`.
 pub fn square_of_sum()
@@ -30,4 +30,14 @@ pub fn half_of_x()
 /// The equation `f_x = 0` for the fields `f*d_x` gives `3/2*d_x` and does not give `x*d_x`.
 pub fn constant_fields_given()
     ensures { ConstantFieldsGiven }
+{}
+
+/// The degree of `x*u^2 + 3*x` is 1 in x and 2 in u.
+pub fn degree_in_each()
+    ensures { DegreeInEach }
+{}
+
+/// The exponent 65,535 is within the limits, and 65,536 is past them.
+pub fn exponents_up_to_65535_are_low()
+    ensures { ExponentsUpTo65535AreLow }
 {}

@@ -1,8 +1,9 @@
 // Each call of a polynomial, at flat polynomials over whole numbers, through the trait's bound.
 use crate::Flat;
-use lie_ring::{Mono, NoMemory, PastKind, PolyFail, Polynomial, Whole};
+use lie_ring::{Mono, NoMemory, PastKind, PolyFail, Polynomial, Ring, Whole};
 use std::alloc::Global;
 use std::process::Abort;
+use std::test::Fail;
 
 /// A polynomial written as its terms.
 type Terms<'a> = &'a [(&'a [(u32, u32)], i128)];
@@ -214,9 +215,43 @@ fn multiples_derivatives_and_copies(rt: HostRuntime) {
         &[(&[(0, 2), (2, 1)], 15), (&[], -1)],
     );
     check_derivative(&rt, alloc, &[(&[], 5)], 0, &[]);
+    let past: Result<Flat<Whole>, PolyFail> = multiple(alloc, &[(X, 2)], -MOST);
+    wants_past(&rt, past, PastKind::Coefficient);
     check_copy(&rt, alloc, &[(&[(0, 3), (2, 1)], 5), (X, -1), (&[], 5)]);
     let past: Result<Flat<Whole>, PolyFail> = derivative(alloc, &[(&[(0, 3)], HALF)], 0);
     wants_past(&rt, past, PastKind::Coefficient);
     let none: Flat<Whole> = Polynomial::zero(alloc);
     assert!(rt; none.len() == 0);
+}
+
+/// The sum of the powers of a variable, from 1 on.
+fn powers(alloc: Global, var: u32, count: u32) -> Result<Flat<Whole>, PolyFail> {
+    let mut terms = Vec::new(alloc);
+    for exponent in 0..count {
+        match terms.push((monomial(alloc, &[(var, exponent)]), Whole::one())) {
+            Ok(()) => {}
+            Err(_) => return Err(PolyFail::NoMemory),
+        }
+    }
+    Polynomial::of_terms(alloc, terms.as_slice())
+}
+
+/// A polynomial with as many terms as the product of the counts.
+fn rectangle(alloc: Global, width: u32, height: u32) -> Result<Flat<Whole>, PolyFail> {
+    let left = powers(alloc, 0, width)?;
+    let right = powers(alloc, 1, height)?;
+    left.mul(alloc, &right)
+}
+
+#[test]
+fn limit_of_terms(rt: HostRuntime) -> Result<(), Fail> {
+    let alloc = rt.alloc();
+    let most = rectangle(alloc, 1000, 1000).map_err(|_| "1,000,000 terms")?;
+    assert_eq!(rt; most.len(), 1_000_000);
+    wants_past(&rt, rectangle(alloc, 1001, 1000), PastKind::Terms);
+    let other: Flat<Whole> = made(alloc, &[(&[(2, 1)], 1)]).map_err(
+        |_| "one term of another variable",
+    )?;
+    wants_past(&rt, most.add(alloc, &other), PastKind::Terms);
+    Ok(())
 }

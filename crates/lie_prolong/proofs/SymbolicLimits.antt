@@ -9,14 +9,14 @@ use Rattle.lie_math.specs.LinearForm.{forms, LinearForm, no_form, ◌+ᶠ◌, fo
 use Rattle.lie_math.specs.Polynomial.{WholePolynomial, constant, ◌*ᴾ◌}
 use Rattle.lie_math.specs.SortedSum.{sum_of_entries}
 use Rattle.lie_math.specs.Variables.{IsIn}
-use Rattle.lie_math.proofs.Counts.{order_raise}
+use Rattle.lie_math.proofs.Counts.{order_raise, order_zeros}
 use Rattle.lie_math.proofs.Variables.{in-*ᴾ, in-constant}
 use Rattle.lie_geometry.specs.Coordinates.{Space}
 use Rattle.lie_geometry.specs.Prolongation.{indices, jet_variable, total_derivative, counts_of}
 use Rattle.lie_geometry.specs.SymbolicProlongation.{forms_over, unknown, symbolic_total, symbolic_coefficient, symbolic_coefficient_at}
 use Rattle.lie_geometry.proofs.Booleans.{and_left, and_right}
 use Rattle.lie_geometry.proofs.Indices.{raise_length, all_below, counts_of_length, counts_of-indices, below_indices}
-use Rattle.lie_geometry.proofs.SymbolicProlongation.{total_term, replicate_length, replicate_order}
+use Rattle.lie_geometry.proofs.SymbolicProlongation.{total_term, replicate_length}
 use Rattle.lie_jet.specs.FormLimits.{HasJetsUpTo, HasOrdersUpTo}
 use Rattle.lie_jet.specs.Jets.{coordinate_of, IsJet}
 use Rattle.lie_jet.specs.declared.jet.Jet.{Jet}
@@ -65,7 +65,7 @@ module _ (S : Space) (some_p : 0 < S.p) (some_q : 0 < S.q) where
   low_total k n f E h = low_map (suc n) (suc n) n n (total_term S k) each E h
     where
       once : (b : ℕ) → b < S.q → IsIn (below S some_p some_q (suc n)) (jet_variable S b (raise k (replicate S.p 0)))
-      once b g = jet_in S some_p some_q (suc n) b (raise k (replicate S.p 0)) (g, raise_length k (replicate S.p 0) (subst (λ l. k < l) (sym (replicate_length S.p)) f) ∙ replicate_length S.p) (let e = order_raise k (replicate S.p 0) in let z = replicate_order S.p in omega arith)
+      once b g = jet_in S some_p some_q (suc n) b (raise k (replicate S.p 0)) (g, raise_length k (replicate S.p 0) (subst (λ l. k < l) (sym (replicate_length S.p)) f) ∙ replicate_length S.p) (let e = order_raise k (replicate S.p 0) in let z = order_zeros S.p in omega arith)
 
       more : (i : ℕ) (d : Derivative) → order d.counts ≤ n → order (raised i d).counts ≤ suc n
       more i d o = let e = order_raise i d.counts in omega arith
