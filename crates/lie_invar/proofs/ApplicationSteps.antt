@@ -17,7 +17,8 @@ use Rattle.lie_ring.specs.declared.failures.PolyFail.{PolyFail}
 use Rattle.lie_poly.proofs.SumSteps.{cause_covered}
 use Rattle.lie_jet.proofs.TotalSteps.{size_times}
 use Rattle.lie_prolong.proofs.Absolutes.{bounded_signed, absolute-nonneg}
-use Rattle.lie_prolong.proofs.Positive.{IsPositive, bounded_term, positive_bounded}
+use Rattle.lie_prolong.proofs.Positive.{IsPositive, positive_bounded}
+use Rattle.lie_jet.proofs.TotalBounds.{term_bound}
 use Rattle.lie_invar.specs.Applications.{sides, applied_to, sizes_of}
 use Rattle.lie_invar.proofs.PowerSteps.{times_one, absolute_proper, absolute_plain}
 use Rattle.lie_invar.proofs.Products.{times-none, bounded_times, cause_times}
@@ -49,7 +50,7 @@ partial_is_positive : (v : ℕ) → IsPositive (partial v)
 partial_is_positive v = record {
   plus = partial-+ᴾ v;
   nothing = partial-0ᴾ v;
-  on_term = λ m c. subst₂ IsBound (sym (partial-term v m c)) (ap (term (lower v m)) (size_times c (exponent m v)) ∙ sym (partial-term v m (pos (unsigned_abs c)))) (bounded_term (lower v m) (c *ℤ pos (exponent m v)));
+  on_term = λ m c. subst₂ IsBound (sym (partial-term v m c)) (ap (term (lower v m)) (size_times c (exponent m v)) ∙ sym (partial-term v m (pos (unsigned_abs c)))) (term_bound (lower v m) (c *ℤ pos (exponent m v)));
 }
 
 abbrev pub bulk_sides : ℕ → ℤ → WholePolynomial → WholePolynomial
@@ -58,7 +59,7 @@ bulk_sides w c R = sides w (pos (unsigned_abs c)) (pos 1) (absolute R)
 sides_bounded : (w : ℕ) (c s : ℤ) (R : WholePolynomial) → unsigned_abs s ≡ 1 → IsBound (sides w c s R) (bulk_sides w c R)
 sides_bounded w c s R u =
     sum_bound (constant c *ᴾ variable w) (constant s *ᴾ R) (constant (pos (unsigned_abs c)) *ᴾ variable w) (constant (pos 1) *ᴾ absolute R)
-    (bounded_times (constant c) (variable w) (constant (pos (unsigned_abs c))) (variable w) (bounded_term unit c) (bounded_term (single w) (pos 1)))
+    (bounded_times (constant c) (variable w) (constant (pos (unsigned_abs c))) (variable w) (term_bound unit c) (term_bound (single w) (pos 1)))
     (subst (IsBound (constant s *ᴾ R)) (sym (one-*ᴾ (absolute R))) (bounded_signed s R (absolute R) u (absolute_bound R)))
 
 pub slope_bounded : (v w : ℕ) (c s : ℤ) (R : WholePolynomial) → unsigned_abs s ≡ 1 → IsBound (partial v (sides w c s R)) (partial v (bulk_sides w c R))

@@ -28,7 +28,8 @@ use Rattle.lie_ring.specs.declared.failures.PolyFail.TheVariants.{Past, NoMemory
 use Rattle.lie_poly.proofs.SumSteps.{cause_covered}
 use Rattle.lie_jet.proofs.TotalSteps.{size_times}
 use Rattle.lie_prolong.proofs.Absolutes.{bounded_more, bounded_negative, left_over, left_over_plain, left_over_sum, absolute-nonneg}
-use Rattle.lie_prolong.proofs.Positive.{IsPositive, bounded_term, positive_bounded}
+use Rattle.lie_prolong.proofs.Positive.{IsPositive, positive_bounded}
+use Rattle.lie_jet.proofs.TotalBounds.{term_bound}
 use Rattle.lie_jet.proofs.FormBounds.{IsBound, none_bound, plain_bound, sum_bound}
 
 -- ---- bounds
@@ -36,7 +37,7 @@ times_term_is_positive : (k : Monomial) (n : ℕ) → IsPositive (λ p. p *ᴾ t
 times_term_is_positive k n = record {
   plus = λ p q. +ᴾ-*ᴾ p q (term k (pos n));
   nothing = 0ᴾ-*ᴾ (term k (pos n));
-  on_term = λ m c. subst₂ IsBound (sym (term_times_term m k c (pos n))) (ap (term (m · k)) (size_times c n) ∙ sym (term_times_term m k (pos (unsigned_abs c)) (pos n))) (bounded_term (m · k) (c *ℤ pos n));
+  on_term = λ m c. subst₂ IsBound (sym (term_times_term m k c (pos n))) (ap (term (m · k)) (size_times c n) ∙ sym (term_times_term m k (pos (unsigned_abs c)) (pos n))) (term_bound (m · k) (c *ℤ pos n));
 }
 
 negative_term : (m : Monomial) (n : ℕ) → negᴾ (term m (pos (suc n))) ≡ term m (negsuc n)

@@ -28,7 +28,7 @@ use Rattle.lie_poly.proofs.TermLists.{entries-append}
 use Rattle.lie_poly.proofs.TimesSteps.{entry_not_zero}
 use Rattle.lie_jet.specs.Listed.{sum_listed, bulk_listed}
 use Rattle.lie_prolong.proofs.Absolutes.{absolute-nonneg}
-use Rattle.lie_prolong.proofs.Positive.{bounded_term}
+use Rattle.lie_jet.proofs.TotalBounds.{term_bound}
 use Rattle.lie_solved.specs.declared.solved.LeadRule.{LeadRule}
 use Rattle.lie_solved.specs.SolvedForms.{solved_equations}
 use Rattle.lie_solved.proofs.Variables.{weaken}
@@ -110,7 +110,7 @@ module _ (rs : List SolvedEquation) (e : ℕ → ℕ) (m : Monomial) (a : ℤ) w
   pub term_bounded : IsBound (reduced_term rs e m a) bulk
   term_bounded =
       bounded_times (constant (a *ℤ missing_powers rs e m)) (replaced rs m.list) _ (replaced (absolute_equations rs) m.list)
-      (subst (λ z. IsBound (constant (a *ℤ missing_powers rs e m)) (constant z)) (ap pos (unsigned_abs-mul a (missing_powers rs e m)) ∙ ap (λ z. pos (unsigned_abs a) *ℤ z) (sym (missing_absolute rs e m))) (bounded_term unit (a *ℤ missing_powers rs e m)))
+      (subst (λ z. IsBound (constant (a *ℤ missing_powers rs e m)) (constant z)) (ap pos (unsigned_abs-mul a (missing_powers rs e m)) ∙ ap (λ z. pos (unsigned_abs a) *ℤ z) (sym (missing_absolute rs e m))) (term_bound unit (a *ℤ missing_powers rs e m)))
       (subst₂ IsBound (replaced_is rs m.list) (replaced_bulk_is rs m.list) (bounded_products (replaced_power rs) (replaced_bulk rs) (replaced_bounded rs) m.list))
 
 pub multiple_apart : (S : Space) (rules : List LeadRule) (e : ℕ → ℕ) (m : Monomial) (a : ℤ) (number multiple : WholePolynomial) → ¬ (a ≡ pos 0) → Every (λ (r : LeadRule). ¬ (r.c ≡ pos 0)) rules → number ≡ constant a → multiple ≡ number *ᴾ constant (missing_powers (solved_equations S rules) e m) → ¬ (multiple ≡ 0ᴾ)

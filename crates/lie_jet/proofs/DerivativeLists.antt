@@ -136,7 +136,7 @@ every_cut P [] fs (suc i) e h q = absurd (cc)
 every_cut P (x ∷ xs) fs zero e h q = let r : x ≡ e = cc in subst P r h.0
 every_cut P (x ∷ xs) fs (suc i) e h q = every_cut P xs fs i e h.1 q
 
-value_at_cut : (es fs : List (Derivative × WholePolynomial)) (i : ℕ) (e : Derivative × WholePolynomial) → IsCanonical forms es → drop i es ≡ e ∷ fs → value_at derivative_cmp forms.values e.0 es ≡ e.1
+pub value_at_cut : (es fs : List (Derivative × WholePolynomial)) (i : ℕ) (e : Derivative × WholePolynomial) → IsCanonical forms es → drop i es ≡ e ∷ fs → value_at derivative_cmp forms.values e.0 es ≡ e.1
 value_at_cut es fs i e canonical q =
     sym (value-of forms es e.0)
     ∙ every_cut (λ (y : Derivative × WholePolynomial). finite.value forms (finite.of forms es) y.0 ≡ y.1) es fs i e

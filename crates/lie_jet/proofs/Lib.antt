@@ -13,4 +13,5 @@ pub mod FormCauses
 pub mod FormParts
 pub mod TotalBounds
 pub mod FormSteps
+pub mod AbsentDerivatives
 pub mod FormKept

@@ -11,8 +11,9 @@ use Rattle.lie_math.specs.Polynomial.{WholePolynomial, polynomials, terms, term,
 use Rattle.lie_math.specs.PolynomialRing.{*ᴾ_comm, 0ᴾ-*ᴾ, polynomial_of-none, term_times_term}
 use Rattle.lie_math.specs.SortedSum.{sum_of_entries}
 use Rattle.lie_math.proofs.Derivation.{derived-0ᴾ}
-use Rattle.lie_math.proofs.Limits.{nonneg_absolutes, term_is}
-use Rattle.lie_poly.proofs.BulkLists.{bulk_covers, bulk_absolutes}
+use Rattle.lie_math.proofs.Limits.{term_is}
+use Rattle.lie_poly.specs.Bulk.{IsBulkOf}
+use Rattle.lie_poly.proofs.BulkLists.{bulk_covers, bulk_nonneg, bulk_absolutes}
 use Rattle.lie_math.proofs.CanonicalLists.{canonical_cons, of-cons}
 use Rattle.lie_math.proofs.TermWise.{not_zero_test, times_list, polynomial_of-times, absolutes-times}
 use Rattle.lie_geometry.specs.Coordinates.{Space}
@@ -27,9 +28,12 @@ use Rattle.lie_jet.proofs.TotalParts.{slope, some_slope, total_term}
 use Rattle.lie_jet.proofs.TotalSteps.{size_times}
 use Rattle.lie_math.specs.Integer.{*ℤ-idl}
 
+bulk_bound : (es fs : List (Monomial × ℤ)) → IsBulkOf es fs → IsBound (polynomial_of es) (polynomial_of fs)
+bulk_bound es fs h = record { covered = bulk_covers es fs h; plain = bulk_nonneg es fs h }
+
 -- ---- one term
 pub term_bound : (m : Monomial) (z : ℤ) → IsBound (term m z) (term m (pos (unsigned_abs z)))
-term_bound m z = subst₂ IsBound (sym (term_is m z)) (sym (term_is m (pos (unsigned_abs z)))) (record { covered = bulk_covers ((m, z) ∷ []) ((m, pos (unsigned_abs z)) ∷ []) (bulk_absolutes ((m, z) ∷ [])); plain = nonneg_absolutes ((m, z) ∷ []) })
+term_bound m z = subst₂ IsBound (sym (term_is m z)) (sym (term_is m (pos (unsigned_abs z)))) (bulk_bound ((m, z) ∷ []) ((m, pos (unsigned_abs z)) ∷ []) (bulk_absolutes ((m, z) ∷ [])))
 
 -- ---- a sum over entries
 module _ {K A : Type 0} (φ ψ : K → A → WholePolynomial) (bound : (k : K) (a : A) → IsBound (φ k a) (ψ k a)) where
@@ -43,7 +47,7 @@ unfolding absolute
 product_bound v a =
     subst₂ IsBound (polynomial_of-times (single v) (pos 1) a.list ∙ ap (λ p. variable v *ᴾ p) (of_list terms a) ∙ *ᴾ_comm (variable v) a)
     (ap polynomial_of (absolutes-times (single v) (pos 1) a.list) ∙ polynomial_of-times (single v) (pos 1) (absolutes a.list) ∙ *ᴾ_comm (variable v) (polynomial_of (absolutes a.list)))
-    (record { covered = bulk_covers (times_list (single v) (pos 1) a.list) (absolutes (times_list (single v) (pos 1) a.list)) (bulk_absolutes (times_list (single v) (pos 1) a.list)); plain = nonneg_absolutes (times_list (single v) (pos 1) a.list) })
+    (bulk_bound (times_list (single v) (pos 1) a.list) (absolutes (times_list (single v) (pos 1) a.list)) (bulk_absolutes (times_list (single v) (pos 1) a.list)))
 
 pub absolute_term : (m : Monomial) (z : ℤ) → unsigned_abs z ≡ 1 → absolute (term m z) ≡ term m (pos 1)
 absolute_term m z unit = ap absolute (term_is m z) ∙ Rattle.lie_math.proofs.Limits.absolute_of ((m, z) ∷ []) (canonical_cons terms (m, z) [] (not_zero_test z apart) tt tt) ∙ ap (λ n. polynomial_of ((m, pos n) ∷ [])) unit ∙ sym (term_is m (pos 1))

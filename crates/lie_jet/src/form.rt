@@ -1,7 +1,7 @@
 // Linear forms in derivatives of unknown functions.
 ghost use Rattle.std.specs.Prelude.{◌≡◌, ◌<◌, ◌≤◌, ◌↔◌, ◌++◌, length, take, drop, ◌∷◌, [], IsTrue, IfErr, IfOk, OnOk};
 ghost use Rattle.lie_math.specs.FiniteSum as finite;
-ghost use Rattle.lie_math.specs.Limits.{absolute};
+ghost use Rattle.lie_math.specs.Limits.{absolute, IsWithinLimits as IsPolynomialWithinLimits};
 ghost use Rattle.lie_math.specs.LinearForm.{forms, no_form, ◌+ᶠ◌, form_term, each_coefficient};
 ghost use Rattle.lie_math.specs.Polynomial.{WholePolynomial, ◌+ᴾ◌};
 ghost use Rattle.lie_math.specs.SortedSum.{add_at, put_new};
@@ -65,6 +65,7 @@ impl SymForm {
     /// Adds a polynomial times a derivative. After an error the form is as it was.
     pub fn put(&mut self, alloc: Global, der: Der, poly: JetPoly) -> Result<(), PolyFail>
         ensures sum { OnOk result (self.new ≡ self.old +ᶠ form_term (derivative_of der) poly) }
+        ensures fits { OnOk result (IsPolynomialWithinLimits (absolute (finite.value forms self.old (derivative_of der)) +ᴾ absolute poly)) }
         ensures past { IfErr result (λ fail. IsCause fail (absolute (finite.value forms self.old (derivative_of der)) +ᴾ absolute poly)) }
         ensures kept { IfErr result (λ _. self.new ≡ self.old) }
     {
@@ -125,6 +126,7 @@ fn put_term(
 ) -> Result<(), PolyFail>
     requires { IsCanonical forms (derivative_terms terms.old.items) }
     ensures items { OnOk result (derivative_terms terms.new.items ≡ add_at forms.order forms.values (derivative_of der) poly (derivative_terms terms.old.items)) }
+    ensures fits { OnOk result (IsPolynomialWithinLimits (absolute (finite.value forms (finite.of forms (derivative_terms terms.old.items)) (derivative_of der)) +ᴾ absolute poly)) }
     ensures kept { IfErr result (λ _. terms.new.items ≡ terms.old.items) }
     ensures past { IfErr result (λ fail. IsCause fail (absolute (finite.value forms (finite.of forms (derivative_terms terms.old.items)) (derivative_of der)) +ᴾ absolute poly)) }
 {
@@ -144,6 +146,7 @@ fn add_at_place(
 ) -> Result<(), PolyFail>
     requires { place < length terms.old.items }
     ensures items { OnOk result (IsReplaced (derivative_terms terms.old.items) place (λ a. a +ᴾ poly.now) (derivative_terms terms.new.items)) }
+    ensures fits { OnOk result (HoldsAt (derivative_terms terms.old.items) place (λ a. IsPolynomialWithinLimits (absolute a +ᴾ absolute poly.now))) }
     ensures kept { IfErr result (λ _. terms.new.items ≡ terms.old.items) }
     ensures past { IfErr result (λ fail. HoldsAt (derivative_terms terms.old.items) place (λ a. IsCause fail (absolute a +ᴾ absolute poly.now))) }
 {
@@ -176,6 +179,7 @@ fn insert_term(
 ) -> Result<(), PolyFail>
     requires { place ≤ length terms.old.items }
     ensures items { OnOk result (derivative_terms terms.new.items ≡ take place (derivative_terms terms.old.items) ++ put_new forms.order forms.values (derivative_of der) poly (drop place (derivative_terms terms.old.items))) }
+    ensures fits { IsPolynomialWithinLimits poly }
     ensures kept { IfErr result (λ _. terms.new.items ≡ terms.old.items) }
     ensures memory { IfErr result IsStarved }
 {

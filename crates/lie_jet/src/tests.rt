@@ -9,7 +9,7 @@ use crate::{
     Der, Field, Jet, JetPoly, Space, SymForm, absolute_polynomial, absolute_value, jet_number,
     jet_of, total, total_sym,
 };
-use lie_ring::{Mono, Polynomial, Ring, Whole};
+use lie_ring::{Mono, PastKind, PolyFail, Polynomial, Ring, Whole};
 use std::alloc::Global;
 use std::test::Fail;
 
@@ -194,5 +194,70 @@ fn absolute_values(rt: HostRuntime) -> Result<(), Fail> {
     let sizes = absolute_polynomial(alloc, &p)?.terms(alloc)?;
     assert_eq!(rt; sizes.len(), 1);
     assert_eq!(rt; sizes[0].1.get(), 3);
+    Ok(())
+}
+
+/// 2^126, of which two are past the limit on numbers.
+const HALF: i128 = 1 << 126;
+
+/// Whether a second number is past beside the first at the same derivative, where the form is as it was.
+fn is_past(alloc: Global, first: i128, second: i128) -> Result<bool, Fail> {
+    let mut form = SymForm::zero(alloc);
+    form.put(alloc, SECOND, number(alloc, first)?)?;
+    let fail = form.put(alloc, SECOND, number(alloc, second)?).err();
+    let terms = form.terms();
+    Ok(
+        fail == Some(PolyFail::Past(PastKind::Coefficient))
+            && terms.len() == 1
+            && has_terms(alloc, &terms[0].1, &[(&[], first)]),
+    )
+}
+
+/// Whether two numbers at the same derivative have this sum.
+fn is_sum(alloc: Global, first: i128, second: i128, sum: i128) -> Result<bool, Fail> {
+    let mut form = SymForm::zero(alloc);
+    form.put(alloc, SECOND, number(alloc, first)?)?;
+    form.put(alloc, SECOND, number(alloc, second)?)?;
+    let terms = form.terms();
+    Ok(terms.len() == 1 && has_terms(alloc, &terms[0].1, &[(&[], sum)]))
+}
+
+#[test]
+fn absolute_values_are_added(rt: HostRuntime) -> Result<(), Fail> {
+    let alloc = rt.alloc();
+    let past = [
+        (HALF, HALF),
+        (i128::MAX, -1),
+        (-i128::MAX, 1),
+        (HALF, -HALF),
+    ];
+    for (first, second) in past.iter() {
+        assert!(rt; is_past(alloc, *first, *second)?);
+    }
+    let within = [
+        (HALF, HALF - 1, i128::MAX),
+        (-HALF, HALF - 1, -1),
+        (1 - i128::MAX, 1, 2 - i128::MAX),
+    ];
+    for (first, second, sum) in within.iter() {
+        assert!(rt; is_sum(alloc, *first, *second, *sum)?);
+    }
+    Ok(())
+}
+
+/// Why the total derivative by x of a multiple of u^2 fails, if it does.
+fn square_fails(alloc: Global, c: i128) -> Result<Option<PolyFail>, Fail> {
+    let c = Whole::new(c).ok_or("too wide")?;
+    let square = product(alloc, &[(1, 2)])?.scale(alloc, &c)?;
+    Ok(total(alloc, PLANE, 0, &square).err())
+}
+
+#[test]
+fn totals_past_the_limit(rt: HostRuntime) -> Result<(), Fail> {
+    let alloc = rt.alloc();
+    let past = Some(PolyFail::Past(PastKind::Coefficient));
+    for (c, want) in [(HALF, past), (-HALF, past), (HALF - 1, None)].iter() {
+        assert_eq!(rt; square_fails(alloc, *c)?, *want);
+    }
     Ok(())
 }

@@ -10,8 +10,6 @@ use Rattle.lie_math.specs.PolynomialRing.{+ᴾ-*ᴾ, 0ᴾ-*ᴾ, term_times_term,
 use Rattle.lie_math.specs.SortedSum.{sum_of_entries}
 use Rattle.lie_math.proofs.Derivation.{derived-0ᴾ}
 use Rattle.lie_math.proofs.Limits.{IsCovered, term_is, IsNonNegative}
-use Rattle.lie_poly.specs.Bulk.{IsBulkOf}
-use Rattle.lie_poly.proofs.BulkLists.{bulk_covers, bulk_nonneg, bulk_absolutes}
 use Rattle.lie_math.proofs.CanonicalLists.{of-cons}
 use Rattle.lie_geometry.specs.Coordinates.{Space, Coordinate, independent, jet, IsCoordinate, number, coordinate}
 use Rattle.lie_geometry.specs.Prolongation.{total_derivative}
@@ -25,7 +23,7 @@ use Rattle.lie_jet.proofs.Raised.{slope_of_jet, slope_at_itself, slope_elsewhere
 use Rattle.lie_jet.proofs.TotalParts.{total_term, number_of_independent}
 use Rattle.lie_jet.proofs.TotalSteps.{size_times}
 use Rattle.lie_prolong.proofs.Absolutes.{bounded_more, left_over, left_over_plain, left_over_sum, absolute-nonneg}
-use Rattle.lie_jet.proofs.TotalBounds.{absolute_variable}
+use Rattle.lie_jet.proofs.TotalBounds.{absolute_variable, term_bound}
 use Rattle.lie_math.specs.Integer.{*ℤ-idl}
 use Rattle.lie_jet.proofs.FormBounds.{IsBound, covered_absolute, none_bound, sum_bound}
 
@@ -33,12 +31,6 @@ pub record IsPositive (F : WholePolynomial → WholePolynomial) : Type 0 where
   pub plus : (p q : WholePolynomial) → F (p +ᴾ q) ≡ F p +ᴾ F q
   pub nothing : F 0ᴾ ≡ 0ᴾ
   pub on_term : (m : Monomial) (c : ℤ) → IsBound (F (term m c)) (F (term m (pos (unsigned_abs c))))
-
-bounded_terms : (es fs : List (Monomial × ℤ)) → IsBulkOf es fs → IsBound (polynomial_of es) (polynomial_of fs)
-bounded_terms es fs h = record { covered = bulk_covers es fs h; plain = bulk_nonneg es fs h }
-
-pub bounded_term : (m : Monomial) (c : ℤ) → IsBound (term m c) (term m (pos (unsigned_abs c)))
-bounded_term m c = subst₂ IsBound (sym (term_is m c)) (sym (term_is m (pos (unsigned_abs c)))) (bounded_terms ((m, c) ∷ []) ((m, pos (unsigned_abs c)) ∷ []) (bulk_absolutes ((m, c) ∷ [])))
 
 module _ {F : WholePolynomial → WholePolynomial} (is : IsPositive F) where
   listed : (es : List (Monomial × ℤ)) → IsBound (F (polynomial_of es)) (F (polynomial_of (absolutes es)))
@@ -65,7 +57,7 @@ pub times_is_positive : (w : ℕ) → IsPositive (λ p. p *ᴾ variable w)
 times_is_positive w = record {
   plus = λ p q. +ᴾ-*ᴾ p q (variable w);
   nothing = 0ᴾ-*ᴾ (variable w);
-  on_term = λ m c. subst₂ IsBound (sym (term_times_term m (single w) c (pos 1))) (ap (term (m · single w)) (size_times c 1) ∙ sym (term_times_term m (single w) (pos (unsigned_abs c)) (pos 1))) (bounded_term (m · single w) (c *ℤ pos 1));
+  on_term = λ m c. subst₂ IsBound (sym (term_times_term m (single w) c (pos 1))) (ap (term (m · single w)) (size_times c 1) ∙ sym (term_times_term m (single w) (pos (unsigned_abs c)) (pos 1))) (term_bound (m · single w) (c *ℤ pos 1));
 }
 
 module _ (S : Space) (small : IsSmall S) (i : ℕ) (inside : i < S.p) where
@@ -95,7 +87,7 @@ module _ (S : Space) (small : IsSmall S) (i : ℕ) (inside : i < S.p) where
     where
       go : (o : Option Monomial) → IsSlope o (slope w) → IsBound (slope w *ᴾ term m c) (slope w *ᴾ term m (pos (unsigned_abs c)))
       go None q = subst (λ d. IsBound (d *ᴾ term m c) (d *ᴾ term m (pos (unsigned_abs c)))) q (subst₂ IsBound (sym (0ᴾ-*ᴾ (term m c))) (sym (0ᴾ-*ᴾ (term m (pos (unsigned_abs c))))) none_bound)
-      go (Some f) q = subst (λ d. IsBound (d *ᴾ term m c) (d *ᴾ term m (pos (unsigned_abs c)))) q (subst₂ IsBound (sym (single_is c)) (sym (single_is (pos (unsigned_abs c)))) (bounded_term (f · m) c))
+      go (Some f) q = subst (λ d. IsBound (d *ᴾ term m c) (d *ᴾ term m (pos (unsigned_abs c)))) q (subst₂ IsBound (sym (single_is c)) (sym (single_is (pos (unsigned_abs c)))) (term_bound (f · m) c))
         where
           single_is : (z : ℤ) → term f (pos 1) *ᴾ term m z ≡ term (f · m) z
           single_is z = term_times_term f m (pos 1) z ∙ ap (term (f · m)) (*ℤ-idl z)

@@ -1,6 +1,6 @@
 use Rattle.std.proofs.Common.{ap, subst, ◌∙◌, ◌++◌, take}
 use Rattle.lie_math.specs.Counts.{Derivative}
-use Rattle.lie_math.specs.Limits.{absolute}
+use Rattle.lie_math.specs.Limits.{absolute, IsWithinLimits}
 use Rattle.lie_math.specs.LinearForm.{forms}
 use Rattle.lie_math.specs.SortedSum.{put_new}
 use Rattle.lie_ring.specs.Causes.{IsCause}
@@ -16,3 +16,6 @@ pub returns-clause-items : goal.returns-clause-items
 returns-clause-items c e fs q =
     c.put_coefficient.ensures e fs q
     ∙ ap (λ a. take c.args.place (derivative_terms c.args.terms.now.items) ++ put_new forms.order forms.values e.0 a fs) (c.in-Ok.ensures.sum ∙ ap (λ (y : Derivative × WholePolynomial). y.1 +ᴾ c.args.poly.now) (term_at c.args.terms.now.items fs c.args.place e c.index.result.now q c.index.ensures))
+
+pub returns-clause-fits : goal.returns-clause-fits
+returns-clause-fits c e fs q = subst (λ (y : Derivative × WholePolynomial). IsWithinLimits (absolute y.1 +ᴾ absolute c.args.poly.now)) (term_at c.args.terms.now.items fs c.args.place e c.index.result.now q c.index.ensures) c.in-Ok.ensures.fits
