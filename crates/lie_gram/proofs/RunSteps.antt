@@ -1,5 +1,5 @@
 -- Runs of bytes of one class, as a loop meets them.
-use Rattle.std.specs.Prelude.{ℕ, ◌≡◌, List, ◌++◌, take, drop, refl}
+use Rattle.std.specs.Prelude.{ℕ, ◌≡◌, List, ◌++◌, take, drop}
 use Rattle.lie_gram.specs.declared.runs.Class.{Class}
 use Rattle.lie_gram.specs.Runs.{run, behind}
 
@@ -7,6 +7,3 @@ use Rattle.lie_gram.specs.Runs.{run, behind}
 pub record IsRunSoFar (c : Class) (bytes : List ℕ) (i : ℕ) : Type 0 where
   pub front : run c bytes ≡ take i bytes ++ run c (drop i bytes)
   pub back : behind c bytes ≡ behind c (drop i bytes)
-
-pub run_none : (c : Class) (bytes : List ℕ) → IsRunSoFar c bytes 0
-run_none c bytes = record { front = refl; back = refl }

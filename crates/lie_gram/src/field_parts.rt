@@ -25,9 +25,9 @@ fn number_over(denominator: u128, term: &FieldTerm) -> Whole
     match Whole::new((denominator / term.over) as i128) {
         Some(factor) => match term.number.mul(&factor) {
             Some(product) => product,
-            None => term.number,
+            None => unreachable!(),
         },
-        None => term.number,
+        None => unreachable!(),
     }
 }
 
@@ -130,7 +130,7 @@ fn exact_quotient(number: Whole, divisor: Whole) -> Whole
 {
     match Whole::new(number.get() / divisor.get()) {
         Some(quotient) => quotient,
-        None => number,
+        None => unreachable!(),
     }
 }
 
@@ -143,7 +143,7 @@ fn quotient(number: Whole, divisor: u128) -> Whole
 {
     match Whole::new(divisor as i128) {
         Some(divisor) => exact_quotient(number, divisor),
-        None => number,
+        None => unreachable!(),
     }
 }
 

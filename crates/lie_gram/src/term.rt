@@ -25,7 +25,7 @@ fn mono_of(alloc: Global, power: Power) -> Result<Mono, NoMemory>
 {
     match Mono::new(alloc, &[(power.number, power.exponent)])? {
         Some(mono) => Ok(mono),
-        None => Ok(Mono::one(alloc)),
+        None => unreachable!(),
     }
 }
 

@@ -77,7 +77,8 @@ impl Terms {
                 let list = with_last(list, mono, value)?;
                 Ok(Some(Terms { list, sizes }))
             }
-            _ => Ok(None),
+            (None, _) => Ok(None),
+            (_, None) => unreachable!(),
         }
     }
 }

@@ -6,8 +6,8 @@ use Rattle.lie_math.specs.Limits.{FitsNumber}
 use Rattle.lie_gram.proofs.field_parts.exact_quotient.Goals as goal
 use Rattle.lie_systems.proofs.Divisibility.{quotient_back, quotient_fits}
 
-pub returns-in-Some : goal.returns-in-Some
-returns-in-Some c =
+pub returns : goal.returns
+returns c =
     let x = c.get.ensures.value in
     let d = c.get-2.ensures.value in
     let fits : FitsNumber (int_div c.get.result c.get-2.result) = subst FitsNumber (ap₂ int_div (sym x) (sym d)) (quotient_fits c.args.number c.args.divisor c.requires.apart c.get.ensures.fits c.requires.divides) in

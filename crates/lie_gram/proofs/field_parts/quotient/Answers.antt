@@ -11,5 +11,5 @@ exact_quotient-requires-clause-apart c e = not_zero c.args.divisor c.requires.so
 pub exact_quotient-requires-clause-divides : goal.exact_quotient-requires-clause-divides
 exact_quotient-requires-clause-divides c = subst (λ z. unsigned_abs z ∣ unsigned_abs c.args.number) (sym (c.in-Some.ensures.0 ∙ to_z_pos w128 c.args.divisor c.requires.small)) c.requires.divides
 
-pub returns-in-Some : goal.returns-in-Some
-returns-in-Some c = ap (λ z. z *ℤ c.exact_quotient.result) (sym (c.in-Some.ensures.0 ∙ to_z_pos w128 c.args.divisor c.requires.small)) ∙ c.exact_quotient.ensures
+pub returns : goal.returns
+returns c = ap (λ z. z *ℤ c.exact_quotient.result) (sym (c.in-Some.ensures.0 ∙ to_z_pos w128 c.args.divisor c.requires.small)) ∙ c.exact_quotient.ensures
