@@ -153,20 +153,19 @@ const SECOND: Der = Der {
     counts: [0; 8],
 };
 
-/// The total derivative by x of a product of powers times the second unknown.
-fn form_total(alloc: Global, pairs: &[(u32, u32)]) -> Result<SymForm, Fail>
-    requires { IsTrue (pairs_in (is_below 13) pairs.now) }
+/// The total derivative by x of a polynomial times the second unknown.
+fn form_total(alloc: Global, p: JetPoly) -> Result<SymForm, PolyFail>
+    requires { IsIn (is_below 13) p }
 {
     let mut form = SymForm::zero(alloc);
-    let p = product(alloc, pairs)?;
     form.put(alloc, SECOND, p)?;
-    Ok(total_sym(alloc, PLANE, 0, &form)?)
+    total_sym(alloc, PLANE, 0, &form)
 }
 
 #[test]
 fn total_of_a_form(rt: HostRuntime) -> Result<(), Fail> {
     let alloc = rt.alloc();
-    let derived = form_total(alloc, &[(0, 1), (1, 1)])?;
+    let derived = form_total(alloc, product(alloc, &[(0, 1), (1, 1)])?)?;
     let terms = derived.terms();
     assert_eq!(rt; terms.len(), 3);
     assert_eq!(rt; terms[0].0, raise_derivative(&SECOND, 0));
@@ -245,11 +244,12 @@ fn absolute_values_are_added(rt: HostRuntime) -> Result<(), Fail> {
     Ok(())
 }
 
-/// Why the total derivative by x of a multiple of u^2 fails, if it does.
-fn square_fails(alloc: Global, c: i128) -> Result<Option<PolyFail>, Fail> {
+/// A multiple of u^2.
+fn square(alloc: Global, c: i128) -> Result<JetPoly, Fail>
+    ensures { IfOk result (λ p. IsIn (is_below 13) p) }
+{
     let c = Whole::new(c).ok_or("too wide")?;
-    let square = product(alloc, &[(1, 2)])?.scale(alloc, &c)?;
-    Ok(total(alloc, PLANE, 0, &square).err())
+    Ok(product(alloc, &[(1, 2)])?.scale(alloc, &c)?)
 }
 
 #[test]
@@ -257,7 +257,10 @@ fn totals_past_the_limit(rt: HostRuntime) -> Result<(), Fail> {
     let alloc = rt.alloc();
     let past = Some(PolyFail::Past(PastKind::Coefficient));
     for (c, want) in [(HALF, past), (-HALF, past), (HALF - 1, None)].iter() {
-        assert_eq!(rt; square_fails(alloc, *c)?, *want);
+        let polynomial = total(alloc, PLANE, 0, &square(alloc, *c)?);
+        assert_eq!(rt; polynomial.err(), *want);
+        let form = form_total(alloc, square(alloc, *c)?);
+        assert_eq!(rt; form.err(), *want);
     }
     Ok(())
 }
