@@ -2,6 +2,7 @@
 use Rattle.std.specs.Prelude.{◌≡◌, ℕ, List, [], ◌∷◌}
 use Rattle.std.proofs.Common.{refl, sym, ap, ap₂, ◌∙◌}
 use mathlib.Core.Path.{fun_ext}
+use Rattle.lie_math.proofs.Differences.{negative_twice, less_difference}
 use Rattle.lie_math.specs.Derivation.{sum_of, derivation, IsDerivation, bracket}
 use Rattle.lie_math.specs.FiniteSumLaws.{plus_idl, plus_comm}
 use Rattle.lie_math.specs.Polynomial.{terms, WholePolynomial, 0ᴾ, ◌+ᴾ◌, ◌*ᴾ◌, variable, negᴾ}
@@ -35,14 +36,8 @@ module _ (next : ℕ → ℕ → WholePolynomial) where
     -- the prolonged field and a total derivative
     pub crossed : (k : ℕ) (p : WholePolynomial) → derivation c (total k p) +ᴾ sum_of is (λ i. total k (x i) *ᴾ total i p) ≡ total k (derivation c p)
     crossed k p =
-        ap (λ z. derivation c (total k p) +ᴾ z) (sym (double_neg _)) ∙ ap (λ z. derivation c (total k p) +ᴾ negᴾ z) (sym same) ∙ back (derivation c (total k p)) (total k (derivation c p))
+        ap (λ z. derivation c (total k p) +ᴾ z) (sym (negative_twice _)) ∙ ap (λ z. derivation c (total k p) +ᴾ negᴾ z) (sym same) ∙ less_difference (derivation c (total k p)) (total k (derivation c p))
       where
-        double_neg : (a : WholePolynomial) → negᴾ (negᴾ a) ≡ a
-        double_neg a = solve polynomial_ring (listed a (a ∷ [])) (⊖ (⊖ (v 0))) (v 0) refl
-
-        back : (a b : WholePolynomial) → a +ᴾ negᴾ (a +ᴾ negᴾ b) ≡ b
-        back a b = solve polynomial_ring (listed a (a ∷ b ∷ [])) (v 0 ⊕ ⊖ (v 0 ⊕ ⊖ (v 1))) (v 1) refl
-
         from : (a b s : WholePolynomial) → a +ᴾ s ≡ b → a +ᴾ negᴾ b ≡ negᴾ s
         from a b s e = ap (λ z. a +ᴾ negᴾ z) (sym e) ∙ solve polynomial_ring (listed a (a ∷ s ∷ [])) (v 0 ⊕ ⊖ (v 0 ⊕ v 1)) (⊖ (v 1)) refl
 

@@ -2,6 +2,7 @@
 use Rattle.std.specs.Prelude.{◌≡◌, ℕ, zero, suc, List, [], ◌∷◌, ◌++◌, ℤ, pos, negsuc, ◌*ℤ◌}
 use Rattle.std.proofs.Common.{refl, sym, ap, ap₂, ◌∙◌, arith}
 use lib.IntN.{*ℤ_comm}
+use Rattle.lie_math.proofs.Differences.{difference_zero, less_nothing, sum_of_differences, difference_of_products, sum_of_multiples}
 use Rattle.lie_math.specs.Canonical.{middle}
 use Rattle.lie_math.specs.Evaluation.{factors, to_power, monomial_value, value_in}
 use Rattle.lie_math.specs.FiniteSumLaws.{sum-none, sum-term, sum-plus, plus_idl, plus_assoc, plus_comm}
@@ -13,8 +14,8 @@ use Rattle.lie_math.specs.PolynomialRing.{*ᴾ-dist, *ᴾ_assoc, one-*ᴾ, polyn
 use Rattle.lie_math.specs.SortedSum.{sum_of_entries}
 use Rattle.lie_math.proofs.Evaluation.{to_power_additive, value_in-plus, value_in-0ᴾ, value_in-constant, value_in-variable, value_in-times, generated}
 use Rattle.lie_math.proofs.Integer.{no_zero_divisors_ℤ, product_not_zero}
-use Rattle.lie_math.proofs.Ring.{plus_cancel, times_nil}
-use Rattle.lie_math.proofs.RingSolver.{v, c0, ◌⊕◌, ◌⊗◌, ⊖, solve, listed}
+use Rattle.lie_math.proofs.Ring.{times_nil}
+use Rattle.lie_math.proofs.RingSolver.{v, ◌⊕◌, ◌⊗◌, solve, listed}
 use Rattle.lie_math.proofs.Weighing.{weigh, weigh-plus, weigh_none, weigh-term, weigh_apart, weigh-times, torsion}
 
 -- ---- the ideal of the differences
@@ -99,22 +100,13 @@ module _ (c : ℕ → ℤ) (right : ℕ → WholePolynomial) (whole : ℤ) (rest
   difference_in = generated (λ q. InIdeal step_difference (grown q +ᴾ negᴾ (replaced q)))
       (λ z. in_same step_difference (sym (polynomial_ring.neg_l (constant z)) ∙ plus_comm terms _ _ ∙ ap₂ (λ a b. a +ᴾ negᴾ b) (sym (grown-constant z)) (sym (value_in-constant polynomial_algebra right z))) (ideal-0ᴾ step_difference))
       (λ w. in_same step_difference (ap₂ (λ a b. a +ᴾ negᴾ b) (sym (grown-variable w)) (sym (value_in-variable polynomial_algebra right w))) (in_one step_difference w))
-      (λ p q h k. in_same step_difference (sums (grown p) (replaced p) (grown q) (replaced q) ∙ ap₂ (λ a b. a +ᴾ negᴾ b) (sym (weigh-plus weight p q)) (sym (value_in-plus polynomial_algebra right p q))) (in_sum step_difference h k))
-      (λ p q h k. in_same step_difference (products (grown p) (replaced p) (grown q) (replaced q) ∙ ap₂ (λ a b. a +ᴾ negᴾ b) (sym (weigh-times weight weight_times p q)) (sym (value_in-times polynomial_algebra right p q)))
+      (λ p q h k. in_same step_difference (sum_of_differences (grown p) (replaced p) (grown q) (replaced q) ∙ ap₂ (λ a b. a +ᴾ negᴾ b) (sym (weigh-plus weight p q)) (sym (value_in-plus polynomial_algebra right p q))) (in_sum step_difference h k))
+      (λ p q h k. in_same step_difference (difference_of_products (grown p) (replaced p) (grown q) (replaced q) ∙ ap₂ (λ a b. a +ᴾ negᴾ b) (sym (weigh-times weight weight_times p q)) (sym (value_in-times polynomial_algebra right p q)))
       (in_sum step_difference (in_multiple step_difference (grown p) k) (in_multiple step_difference (replaced q) h)))
-    where
-      sums : (a x b y : WholePolynomial) → (a +ᴾ negᴾ x) +ᴾ (b +ᴾ negᴾ y) ≡ (a +ᴾ b) +ᴾ negᴾ (x +ᴾ y)
-      sums a x b y = solve polynomial_ring (listed a (a ∷ x ∷ b ∷ y ∷ [])) ((v 0 ⊕ ⊖ (v 1)) ⊕ (v 2 ⊕ ⊖ (v 3))) ((v 0 ⊕ v 2) ⊕ ⊖ (v 1 ⊕ v 3)) refl
-
-      products : (a x b y : WholePolynomial) → a *ᴾ (b +ᴾ negᴾ y) +ᴾ y *ᴾ (a +ᴾ negᴾ x) ≡ a *ᴾ b +ᴾ negᴾ (x *ᴾ y)
-      products a x b y = solve polynomial_ring (listed a (a ∷ x ∷ b ∷ y ∷ [])) ((v 0 ⊗ (v 2 ⊕ ⊖ (v 3))) ⊕ (v 3 ⊗ (v 0 ⊕ ⊖ (v 1)))) ((v 0 ⊗ v 2) ⊕ ⊖ (v 1 ⊗ v 3)) refl
 
   -- what vanishes when it is replaced, is in the ideal up to a number
   pub reduces_in : (n : ℤ) (p q : WholePolynomial) → grown q ≡ constant n *ᴾ p → replaced q ≡ 0ᴾ → InIdeal step_difference (constant n *ᴾ p)
-  reduces_in n p q e z = in_same step_difference (ap₂ (λ a b. a +ᴾ negᴾ b) e z ∙ tidy (constant n *ᴾ p)) (difference_in q)
-    where
-      tidy : (a : WholePolynomial) → a +ᴾ negᴾ 0ᴾ ≡ a
-      tidy a = solve polynomial_ring (listed a (a ∷ [])) (v 0 ⊕ ⊖ c0) (v 0) refl
+  reduces_in n p q e z = in_same step_difference (ap₂ (λ a b. a +ᴾ negᴾ b) e z ∙ less_nothing (constant n *ᴾ p)) (difference_in q)
 
   -- ---- and back
   pub record Cleared (a : WholePolynomial) : Type 0 where
@@ -138,7 +130,7 @@ module _ (c : ℕ → ℤ) (right : ℕ → WholePolynomial) (whole : ℤ) (rest
           apart = product_not_zero _ _ h.apart k.apart;
           made = constant k.number *ᴾ h.made +ᴾ constant h.number *ᴾ k.made;
           is = weigh-plus weight _ _ ∙ ap₂ ◌+ᴾ◌ (weigh-times weight weight_times _ _ ∙ ap₂ ◌*ᴾ◌ (grown-constant k.number) h.is) (weigh-times weight weight_times _ _ ∙ ap₂ ◌*ᴾ◌ (grown-constant h.number) k.is)
-              ∙ sums (constant h.number) (constant k.number) p q ∙ ap (λ z. z *ᴾ (p +ᴾ q)) (sym (constant-times h.number k.number));
+              ∙ sum_of_multiples (constant h.number) (constant k.number) p q ∙ ap (λ z. z *ᴾ (p +ᴾ q)) (sym (constant-times h.number k.number));
         })
         (λ p q h k. record {
           number = h.number *ℤ k.number;
@@ -149,9 +141,6 @@ module _ (c : ℕ → ℤ) (right : ℕ → WholePolynomial) (whole : ℤ) (rest
       where
         one_apart : ¬ (pos 1 ≡ pos 0)
         one_apart e = absurd (omega (arith, ap lib.IntN.nat_abs e))
-
-        sums : (a b p q : WholePolynomial) → b *ᴾ (a *ᴾ p) +ᴾ a *ᴾ (b *ᴾ q) ≡ (a *ᴾ b) *ᴾ (p +ᴾ q)
-        sums a b p q = solve polynomial_ring (listed a (a ∷ b ∷ p ∷ q ∷ [])) ((v 1 ⊗ (v 0 ⊗ v 2)) ⊕ (v 0 ⊗ (v 1 ⊗ v 3))) ((v 0 ⊗ v 1) ⊗ (v 2 ⊕ v 3)) refl
 
     -- the leads stand in no right side
     module _ (fixed_grown : (w : ℕ) → grown (right w) ≡ right w) (fixed_replaced : (w : ℕ) → replaced (right w) ≡ right w) where
@@ -207,11 +196,8 @@ module _ (c : ℕ → ℤ) (right : ℕ → WholePolynomial) (whole : ℤ) (rest
           go (e ∷ es) h = go es (no_zero_divisors_ℤ (to_power integer_algebra (c e.0) e.1) _ (power_apart e.0 e.1) h)
 
       grown_same : (p q : WholePolynomial) → grown p ≡ grown q → p ≡ q
-      grown_same p q e = off p q (weigh_apart weight weight_apart (p +ᴾ negᴾ q) (
+      grown_same p q e = difference_zero p q (weigh_apart weight weight_apart (p +ᴾ negᴾ q) (
           weigh-plus weight p (negᴾ q) ∙ ap₂ ◌+ᴾ◌ e (weigh-times weight weight_times (constant (negsuc 0)) q ∙ ap (λ z. z *ᴾ grown q) (grown-constant (negsuc 0))) ∙ plus_comm terms _ _ ∙ polynomial_ring.neg_l (grown q)))
-        where
-          off : (a b : WholePolynomial) → a +ᴾ negᴾ b ≡ 0ᴾ → a ≡ b
-          off a b h = plus_cancel polynomial_ring a b (negᴾ b) (plus_comm terms (negᴾ b) a ∙ h ∙ sym (polynomial_ring.neg_l b))
 
       -- what is in the ideal up to a number, vanishes when it is replaced
       pub in_reduces : (n k : ℤ) (p q : WholePolynomial) → ¬ (n ≡ pos 0) → ¬ (k ≡ pos 0) → grown q ≡ constant n *ᴾ p → InIdeal step_difference (constant k *ᴾ p) → replaced q ≡ 0ᴾ

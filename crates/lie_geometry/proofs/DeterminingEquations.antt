@@ -1,7 +1,8 @@
 -- The determining equations, and that they hold exactly of the fields that meet the invariance condition.
-use Rattle.std.specs.Prelude.{◌≡◌, ℕ, ◌+◌, ◌<◌, ◌≤◌, true, false, ◌||◌, List, [], ◌∷◌, ◌↔◌, max, All, slice_index_or}
+use Rattle.std.specs.Prelude.{◌≡◌, ℕ, ◌+◌, ◌<◌, ◌≤◌, true, false, ◌||◌, List, [], ◌∷◌, ◌↔◌, All, slice_index_or}
 use Rattle.std.proofs.Common.{refl, sym, ap₂, subst, ◌∙◌, arith, ltb-true}
 use Rattle.std.proofs.lemmas.Bool.{ne_eqb}
+use Rattle.lie_math.proofs.Variables.{max_left, max_right}
 use Rattle.lie_math.specs.Counts.{Derivative, derived}
 use Rattle.lie_math.specs.LinearForm.{LinearForm, each_coefficient, apply}
 use Rattle.lie_math.specs.Monomial.{Monomial}
@@ -39,17 +40,11 @@ module _ (S : Space) (some_p : 0 < S.p) (some_q : 0 < S.q) (rs : List SolvedEqua
   unfolding apply
   bounded_coefficients e E h = go E.list h
     where
-      left : (a b c : ℕ) → max a b ≤ c → a ≤ c
-      left a b c h = omega arith
-
-      right : (a b c : ℕ) → max a b ≤ c → b ≤ c
-      right a b c h = omega arith
-
       go : (es : List (Derivative × WholePolynomial)) → ((w : ℕ) → coefficients_greatest es w ≤ e w) → Bounded rs e (sum_of_entries polynomials (λ d a. a *ᴾ derived F d) es)
       go [] h = bounded_none rs e
       go (x ∷ es) h = bounded-+ᴾ rs e _ _
-          (bounded_out rs e (is_in_z S) (not_lead S rs high) x.1 (derived F x.0) (derivative_in_z x.0) (bounded_greatest rs e x.1 (λ w. left (greatest_exponent x.1 w) (coefficients_greatest es w) (e w) (h w))))
-          (go es (λ w. right (greatest_exponent x.1 w) (coefficients_greatest es w) (e w) (h w)))
+          (bounded_out rs e (is_in_z S) (not_lead S rs high) x.1 (derived F x.0) (derivative_in_z x.0) (bounded_greatest rs e x.1 (λ w. max_left (greatest_exponent x.1 w) (coefficients_greatest es w) (e w) (h w))))
+          (go es (λ w. max_right (greatest_exponent x.1 w) (coefficients_greatest es w) (e w) (h w)))
 
   -- reduction commutes with putting in
   pub apply_symbolic_reduced : (E : LinearForm) → apply F (symbolic_reduced rs E) ≡ reduced_by rs (coefficients_greatest E.list) (apply F E)

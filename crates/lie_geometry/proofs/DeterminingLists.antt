@@ -3,6 +3,7 @@ use Rattle.std.specs.List.{Any}
 use Rattle.std.specs.Prelude.{◌≡◌, ℕ, zero, suc, ◌<◌, Bool, true, false, cond, ◌||◌, List, [], ◌∷◌, ◌++◌, ◌↔◌, length, map, All, slice_index_or, ℤ, pos, ◌⊎◌}
 use Rattle.std.proofs.Common.{refl, sym, ap, ap₂, subst, ◌∙◌, arith, true≢false, inl, inr}
 use mathlib.Core.Path.{fun_ext}
+use Rattle.lie_math.proofs.SomeElement.{any_head, any_tail, any_left, any_right}
 use Rattle.lie_math.specs.FiniteSumLaws as finite_laws
 use Rattle.lie_math.proofs.FiniteSum as finite_proofs
 use Rattle.lie_math.specs.Counts.{Derivative}
@@ -76,30 +77,6 @@ map_all P f (m ∷ ms) h (suc k) d g = map_all P f ms h k d (less g)
     less g = omega arith
 
 -- ---- some element of a list
-any_head : {X : Type 0} (P : X → Type 0) (x : X) (xs : List X) → P x → Any P (x ∷ xs)
-any_head P x xs p = (0, x, omega arith, refl, p)
-
-any_tail : {X : Type 0} (P : X → Type 0) (x : X) (xs : List X) → Any P xs → Any P (x ∷ xs)
-any_tail P x xs h = (suc h.0, h.1, next (h.2), h.3, h.4)
-  where
-    next : {k : ℕ} → k < length xs → suc k < length (x ∷ xs)
-    next g = omega arith
-
-any_left : {X : Type 0} (P : X → Type 0) (xs ys : List X) → Any P xs → Any P (xs ++ ys)
-any_left {X = X} P xs ys h = at xs h.0 h.1 h.2 h.3 h.4
-  where
-    at : (xs : List X) (k : ℕ) (x : X) → k < length xs → slice_index_or xs k x ≡ x → P x → Any P (xs ++ ys)
-    at [] k x g e p = absurd (omega arith)
-    at (y ∷ xs) zero x g e p = any_head P y (xs ++ ys) (subst P (sym e) p)
-    at (y ∷ xs) (suc k) x g e p = any_tail P y (xs ++ ys) (at xs k x (less g) e p)
-      where
-        less : suc k < length (y ∷ xs) → k < length xs
-        less g = omega arith
-
-any_right : {X : Type 0} (P : X → Type 0) (xs ys : List X) → Any P ys → Any P (xs ++ ys)
-any_right P [] ys h = h
-any_right P (x ∷ xs) ys h = any_tail P x (xs ++ ys) (any_right P xs ys h)
-
 any_map : (P : LinearForm → Type 0) (f : Monomial → LinearForm) (μ : Monomial) (ms : List Monomial) → has μ ms ≡ true → P (f μ) → Any P (map f ms)
 any_map P f μ [] e p = absurd (true≢false (sym e))
 any_map P f μ (m ∷ ms) e p = by (same_monomial μ m) refl e (λ g. any_map P f μ ms g p)

@@ -7,6 +7,7 @@ use lib.IntN.{*ℤ_comm, zero-*ℤ, *ℤ-zero}
 use Rattle.std.specs.Ordering.{eq_by_cmp, nat_cmp}
 use Rattle.std.specs.Cmp.{tied_itself}
 use Rattle.std.proofs.lemmas.List.Folds.{list_any_none}
+use Rattle.lie_math.proofs.Differences.{less_nothing, sum_of_differences, difference_of_products, sum_of_multiples}
 use Rattle.lie_math.specs.FiniteSum as finite
 use Rattle.lie_math.proofs.FiniteSum as finite_proofs
 use Rattle.lie_math.specs.Canonical.{middle, sum_of_entries-map}
@@ -24,7 +25,7 @@ use Rattle.lie_math.proofs.Evaluation.{to_power-plus, to_power_additive, value_i
 use Rattle.lie_math.proofs.Integer.{product_not_zero, one_not_zero}
 use Rattle.lie_math.proofs.LinearMap.{over_terms-term, over_terms-inside}
 use Rattle.lie_math.proofs.Ring.{plus_idr, times_nil, nil_times}
-use Rattle.lie_math.proofs.RingSolver.{v, c0, ◌⊕◌, ◌⊗◌, ⊖, solve, listed}
+use Rattle.lie_math.proofs.RingSolver.{v, ◌⊗◌, solve, listed}
 use Rattle.lie_math.proofs.Substitution.{value_in_itself}
 use Rattle.lie_math.proofs.Variables.{in-variable, value_in_agrees}
 use Rattle.lie_math.proofs.Weighing.{scaled_additive, weigh, weigh-plus, weigh-term, weigh-times}
@@ -279,11 +280,8 @@ module _ (rs : List SolvedEquation) (apart : NonzeroFactors rs) (distinct : Have
   multiple_sum p q h k = record {
     number = h.number *ℤ k.number;
     nonzero = product_not_zero h.number k.number h.nonzero k.nonzero;
-    is = in_same Δ (sums (constant h.number) (constant k.number) p q ∙ ap (λ z. z *ᴾ (p +ᴾ q)) (sym (constant-times h.number k.number))) (in_sum Δ (in_multiple Δ (constant k.number) h.is) (in_multiple Δ (constant h.number) k.is));
+    is = in_same Δ (sum_of_multiples (constant h.number) (constant k.number) p q ∙ ap (λ z. z *ᴾ (p +ᴾ q)) (sym (constant-times h.number k.number))) (in_sum Δ (in_multiple Δ (constant k.number) h.is) (in_multiple Δ (constant h.number) k.is));
   }
-    where
-      sums : (a b p q : WholePolynomial) → b *ᴾ (a *ᴾ p) +ᴾ a *ᴾ (b *ᴾ q) ≡ (a *ᴾ b) *ᴾ (p +ᴾ q)
-      sums a b p q = solve polynomial_ring (listed a (a ∷ b ∷ p ∷ q ∷ [])) ((v 1 ⊗ (v 0 ⊗ v 2)) ⊕ (v 0 ⊗ (v 1 ⊗ v 3))) ((v 0 ⊗ v 1) ⊗ (v 2 ⊕ v 3)) refl
 
   pub multiple_times : (a p : WholePolynomial) → HasMultiple p → HasMultiple (a *ᴾ p)
   multiple_times a p h = record { number = h.number; nonzero = h.nonzero; is = in_same Δ (turned a (constant h.number) p) (in_multiple Δ a h.is) }
@@ -321,18 +319,12 @@ module _ (rs : List SolvedEquation) (apart : NonzeroFactors rs) (distinct : Have
     derived_difference = generated (λ q. HasMultiple (D (G q +ᴾ negᴾ (R q))))
         (λ z. multiple_same 0ᴾ _ (sym (ap D (ap₂ (λ a b. a +ᴾ negᴾ b) (grown-constant z) (value_in-constant polynomial_algebra right z) ∙ plus_comm terms _ _ ∙ polynomial_ring.neg_l (constant z)) ∙ derived-0ᴾ d)) multiple_none)
         (λ w. multiple_same _ _ (ap D (sym (ap₂ (λ a b. a +ᴾ negᴾ b) (grown-variable w) (value_in-variable polynomial_algebra right w)))) (at_variable w))
-        (λ p q h k. multiple_same _ _ (sym (d.plus _ _) ∙ ap D (sums (G p) (R p) (G q) (R q) ∙ ap₂ (λ a b. a +ᴾ negᴾ b) (sym (weigh-plus W p q)) (sym (value_in-plus polynomial_algebra right p q)))) (multiple_sum _ _ h k))
+        (λ p q h k. multiple_same _ _ (sym (d.plus _ _) ∙ ap D (sum_of_differences (G p) (R p) (G q) (R q) ∙ ap₂ (λ a b. a +ᴾ negᴾ b) (sym (weigh-plus W p q)) (sym (value_in-plus polynomial_algebra right p q)))) (multiple_sum _ _ h k))
         (λ p q h k. multiple_same _ _
-        (sym (d.plus _ _ ∙ ap₂ ◌+ᴾ◌ (d.times (G p) (G q +ᴾ negᴾ (R q))) (d.times (R q) (G p +ᴾ negᴾ (R p)))) ∙ ap D (products (G p) (R p) (G q) (R q) ∙ ap₂ (λ a b. a +ᴾ negᴾ b) (sym (weigh-times W weight_times p q)) (sym (value_in-times polynomial_algebra right p q))))
+        (sym (d.plus _ _ ∙ ap₂ ◌+ᴾ◌ (d.times (G p) (G q +ᴾ negᴾ (R q))) (d.times (R q) (G p +ᴾ negᴾ (R p)))) ∙ ap D (difference_of_products (G p) (R p) (G q) (R q) ∙ ap₂ (λ a b. a +ᴾ negᴾ b) (sym (weigh-times W weight_times p q)) (sym (value_in-times polynomial_algebra right p q))))
         (multiple_sum _ _
         (multiple_sum _ _ (multiple_times (G p) _ k) (multiple_times (D (G p)) _ (multiple_of_in _ (difference_in c right (product rs) (others rs) splits q))))
         (multiple_sum _ _ (multiple_times (R q) _ h) (multiple_times (D (R q)) _ (multiple_of_in _ (difference_in c right (product rs) (others rs) splits p))))))
-      where
-        sums : (a x b y : WholePolynomial) → (a +ᴾ negᴾ x) +ᴾ (b +ᴾ negᴾ y) ≡ (a +ᴾ b) +ᴾ negᴾ (x +ᴾ y)
-        sums a x b y = solve polynomial_ring (listed a (a ∷ x ∷ b ∷ y ∷ [])) ((v 0 ⊕ ⊖ (v 1)) ⊕ (v 2 ⊕ ⊖ (v 3))) ((v 0 ⊕ v 2) ⊕ ⊖ (v 1 ⊕ v 3)) refl
-
-        products : (a x b y : WholePolynomial) → a *ᴾ (b +ᴾ negᴾ y) +ᴾ y *ᴾ (a +ᴾ negᴾ x) ≡ a *ᴾ b +ᴾ negᴾ (x *ᴾ y)
-        products a x b y = solve polynomial_ring (listed a (a ∷ x ∷ b ∷ y ∷ [])) ((v 0 ⊗ (v 2 ⊕ ⊖ (v 3))) ⊕ (v 3 ⊗ (v 0 ⊕ ⊖ (v 1)))) ((v 0 ⊗ v 2) ⊕ ⊖ (v 1 ⊗ v 3)) refl
 
     -- what is reduced to 0 is still, when it is derived
     pub derived_reduced : (P : WholePolynomial) → reduced rs P ≡ 0ᴾ → HasMultiple (D P)
@@ -341,8 +333,5 @@ module _ (rs : List SolvedEquation) (apart : NonzeroFactors rs) (distinct : Have
         n : WholePolynomial
         n = constant (full rs (greatest_exponent P))
 
-        tidy : (a : WholePolynomial) → a +ᴾ negᴾ 0ᴾ ≡ a
-        tidy a = solve polynomial_ring (listed a (a ∷ [])) (v 0 ⊕ ⊖ c0) (v 0) refl
-
         same : D (G (q_of (greatest_exponent P) P) +ᴾ negᴾ (R (q_of (greatest_exponent P) P))) ≡ n *ᴾ D P
-        same = ap D (ap₂ (λ a b. a +ᴾ negᴾ b) (grown_q (greatest_exponent P) P (bounded_reduced rs P)) (sym (reduced_as_value (greatest_exponent P) P) ∙ h) ∙ tidy (n *ᴾ P)) ∙ d.times n P ∙ ap (λ z. n *ᴾ D P +ᴾ z *ᴾ P) (d.whole (full rs (greatest_exponent P))) ∙ ap (λ z. n *ᴾ D P +ᴾ z) (nil_times polynomial_ring P) ∙ plus_idr polynomial_ring (n *ᴾ D P)
+        same = ap D (ap₂ (λ a b. a +ᴾ negᴾ b) (grown_q (greatest_exponent P) P (bounded_reduced rs P)) (sym (reduced_as_value (greatest_exponent P) P) ∙ h) ∙ less_nothing (n *ᴾ P)) ∙ d.times n P ∙ ap (λ z. n *ᴾ D P +ᴾ z *ᴾ P) (d.whole (full rs (greatest_exponent P))) ∙ ap (λ z. n *ᴾ D P +ᴾ z) (nil_times polynomial_ring P) ∙ plus_idr polynomial_ring (n *ᴾ D P)

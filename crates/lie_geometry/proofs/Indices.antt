@@ -1,6 +1,7 @@
 -- Lists of counts and the lists of their indices.
 use Rattle.std.specs.Prelude.{◌≡◌, ℕ, zero, suc, ◌+◌, ◌<◌, ◌≤◌, Bool, true, false, cond, ◌&&◌, List, [], ◌∷◌, ◌++◌, length, replicate, ltb}
 use Rattle.std.proofs.Common.{refl, sym, ap, ap₂, ◌∙◌, arith, ltb-true, lt-ltb, le-ltb, true≢false}
+use Rattle.std.proofs.lemmas.List.{length-replicate}
 use Rattle.lie_math.specs.Counts.{raise}
 use Rattle.lie_math.proofs.Counts.{raise_comm}
 use Rattle.lie_geometry.specs.Coordinates.{Space}
@@ -43,11 +44,7 @@ module _ (S : Space) where
   ]
 
   pub counts_of_length : (W : List ℕ) → all_below S.p W ≡ true → length (counts_of S W) ≡ S.p
-  counts_of_length [] h = of_zeros S.p
-    where
-      of_zeros : (n : ℕ) → length {A = ℕ} (replicate n 0) ≡ n
-      of_zeros zero = refl
-      of_zeros (suc n) = ap suc (of_zeros n)
+  counts_of_length [] h = length-replicate S.p 0
   counts_of_length (k ∷ W) h = go (and_left (ltb k S.p) (all_below S.p W) h) (counts_of_length W (and_right (ltb k S.p) (all_below S.p W) h))
     where
       go : ltb k S.p ≡ true → length (counts_of S W) ≡ S.p → length (raise k (counts_of S W)) ≡ S.p

@@ -1,10 +1,11 @@
 -- Reduction, by exponents that bound those of the leads. What is reduced to 0 does not depend on the exponents.
-use Rattle.std.specs.Prelude.{◌≡◌, ℕ, zero, suc, ◌+◌, ◌-◌, ◌<◌, ◌≤◌, Bool, true, false, cond, ◌&&◌, List, [], ◌∷◌, length, eqb, leb, max, All, ℤ, pos, ◌+ℤ◌, ◌*ℤ◌}
+use Rattle.std.specs.Prelude.{◌≡◌, ℕ, zero, suc, ◌+◌, ◌-◌, ◌<◌, ◌≤◌, Bool, true, false, cond, ◌&&◌, List, [], ◌∷◌, length, eqb, leb, All, ℤ, pos, ◌+ℤ◌, ◌*ℤ◌}
 use Rattle.std.proofs.Common.{refl, sym, ap, ap₂, ◌∙◌, arith}
 use Rattle.std.proofs.lemmas.Bool.{leb-true, leb-false, eqb-false}
 use mathlib.Core.Path.{fun_ext}
 use lib.IntN.{*ℤ_comm, zero-*ℤ, *ℤ-zero}
 use Rattle.std.specs.Ordering.{eq_by_cmp, nat_cmp}
+use Rattle.lie_math.proofs.Variables.{max_left, max_right}
 use Rattle.lie_math.proofs.FiniteSum as finite_proofs
 use Rattle.lie_math.specs.Canonical.{middle, sum_of_entries-plus, sum_of_entries-map}
 use Rattle.lie_math.specs.Evaluation.{factors, to_power, monomial_value}
@@ -149,17 +150,11 @@ module _ (rs : List SolvedEquation) (e : ℕ → ℕ) where
   unfolding weigh
   bounded_greatest P h = go P.list h
     where
-      left : (a b c : ℕ) → max a b ≤ c → a ≤ c
-      left a b c h = omega arith
-
-      right : (a b c : ℕ) → max a b ≤ c → b ≤ c
-      right a b c h = omega arith
-
       go : (es : List (Monomial × ℤ)) → ((w : ℕ) → terms_greatest es w ≤ e w) → sum_of_entries polynomials (λ k a. term k (a *ℤ outside rs e k)) es ≡ 0ᴾ
       go [] h = refl
       go (x ∷ es) h =
-          ap₂ ◌+ᴾ◌ (ap (λ t. term x.0 (x.1 *ℤ cond t (pos 0) (pos 1))) (fits_all rs x.0 (λ w. left (exponent x.0 w) (terms_greatest es w) (e w) (h w))) ∙ ap (term x.0) (*ℤ-zero x.1) ∙ (term_additive terms).on_nil x.0)
-          (go es (λ w. right (exponent x.0 w) (terms_greatest es w) (e w) (h w))) ∙ plus_idl terms 0ᴾ
+          ap₂ ◌+ᴾ◌ (ap (λ t. term x.0 (x.1 *ℤ cond t (pos 0) (pos 1))) (fits_all rs x.0 (λ w. max_left (exponent x.0 w) (terms_greatest es w) (e w) (h w))) ∙ ap (term x.0) (*ℤ-zero x.1) ∙ (term_additive terms).on_nil x.0)
+          (go es (λ w. max_right (exponent x.0 w) (terms_greatest es w) (e w) (h w))) ∙ plus_idl terms 0ᴾ
 
 -- ---- greater exponents
 abbrev pub gap : List SolvedEquation → (ℕ → ℕ) → (ℕ → ℕ) → ℤ

@@ -2,6 +2,7 @@
 use Rattle.std.specs.Prelude.{◌≡◌, ℕ, zero, suc, ◌+◌, ◌*◌, ◌-◌, ◌<◌, cond, List, [], ◌∷◌, length, replicate, negsuc}
 use Rattle.std.proofs.Common.{refl, sym, ap, ap₂, ◌∙◌, arith, lt-ltb}
 use mathlib.Core.Path.{fun_ext}
+use Rattle.std.proofs.lemmas.List.{length-replicate}
 use Rattle.lie_math.specs.FiniteSumLaws as finite_laws
 use Rattle.lie_math.specs.Canonical.{sum_of_entries-map}
 use Rattle.lie_math.specs.Counts.{raise, partials_from, partials, Derivative, raised, derived}
@@ -41,10 +42,6 @@ abbrev pub total_term : Space → ℕ → Derivative → WholePolynomial → Lin
 total_term S i d a = form_term d (total_derivative S i a) +ᶠ form_term (raised i d) a +ᶠ forms_over (numbers_below S.q) (λ b. form_term (raised (S.p + b) d) (a *ᴾ jet_variable S b (raise i (replicate S.p 0))))
 
 -- ---- the coordinates of order 0
-pub replicate_length : (n : ℕ) → length {A = ℕ} (replicate n 0) ≡ n
-replicate_length zero = refl
-replicate_length (suc n) = ap suc (replicate_length n)
-
 replicate_rank : (n : ℕ) → rank (replicate n 0) ≡ 0
 replicate_rank zero = refl
 replicate_rank (suc n) = ap₂ (λ a b. sum_below (ways (length {A = ℕ} (replicate n 0))) a + b) (order_zeros n) (replicate_rank n)
@@ -80,7 +77,7 @@ module _ (S : Space) (some_p : 0 < S.p) (some_q : 0 < S.q) where
       plain p q a = omega arith
 
   pub coordinate_none : (a : ℕ) → a < S.q → coordinate S (S.p + a) ≡ jet a (replicate S.p 0)
-  coordinate_none a h = ap (coordinate S) (sym (number_none a)) ∙ coordinate-number S some_p some_q (jet a (replicate S.p 0)) (h, replicate_length S.p)
+  coordinate_none a h = ap (coordinate S) (sym (number_none a)) ∙ coordinate-number S some_p some_q (jet a (replicate S.p 0)) (h, length-replicate S.p 0)
 
   pub coordinate_base : (i : ℕ) → i < S.p → coordinate S i ≡ independent i
   unfolding coordinate

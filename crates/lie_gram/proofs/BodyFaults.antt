@@ -2,7 +2,7 @@
 use Rattle.std.specs.Prelude.{ℕ, ◌≡◌, ◌+◌, ◌≤◌, Bool, true, false, ◌==◌, nat_le, List, [], ◌∷◌, ◌++◌, length, if◌then◌else◌, Option, Some, None, Ok, Err, codes, refl}
 use Rattle.std.proofs.Common.{append_assoc, length-append, sym, ap, ◌∙◌, subst, arith}
 use Rattle.std.proofs.lemmas.Bool.Decides.{nat_tests}
-use Rattle.std.proofs.lemmas.List.{append-nil}
+use Rattle.std.proofs.lemmas.List.{append-nil, nil_from_length}
 use Rattle.lie_geometry.specs.Coordinates.{Space}
 use Rattle.lie_gram.specs.declared.fault.BadKind.TheVariants.{UnknownWord, TooManyEquations, Syntax}
 use Rattle.lie_gram.specs.declared.runs.Class.TheVariants.{Content}
@@ -27,10 +27,6 @@ plain_eq = (refl, (refl, tt))
 pub plain_end : IsPlain (codes "end")
 plain_end = (refl, (refl, (refl, tt)))
 
-no_equations : (es : List EquationRead) → length es ≡ 0 → es ≡ []
-no_equations [] h = refl
-no_equations (e ∷ es) h = absurd (omega arith)
-
 -- ---- what stops a line
 module _ (S : Space) (names : List ℕ) (es : List EquationRead) (lines : List (List ℕ)) (content : List ℕ) (rest : List (List ℕ)) (next : IsNext lines content rest) (f : FileFail) where
   equation_line-fails : is_word (codes "eq") content ≡ true → equation_line S names (length es) content rest ≡ Err f → IsLineFault S names es lines f
@@ -50,7 +46,7 @@ module _ (S : Space) (names : List ℕ) (es : List EquationRead) (lines : List (
       let left = behind_word content in
       let is = is_word-is (codes "end") content word in
       test_fails (length es == 0) (fault_at Syntax content (length rest) (after_blanks content)) f (end_of content rest >>= λ _. Ok None) h
-      (λ none same. subst (IsLineFault S names es lines) same (early_end content left rest next is (no_equations es (grind (arith, nat_tests, none)))))
+      (λ none same. subst (IsLineFault S names es lines) same (early_end content left rest next is (nil_from_length es (grind (arith, nat_tests, none)))))
       (λ some more. bind_fails (end_of content rest) (λ _. Ok None) f more
       (λ k. other_fails (length (after_blanks left) == 0) (fault_at Syntax content (length rest) (after_blanks left)) f (nothing_behind (next_line rest)) k
       (λ word_left same. subst (IsLineFault S names es lines) same (further_word content left rest next is (grind (arith, nat_tests, some)) (grind (arith, nat_tests, word_left))))

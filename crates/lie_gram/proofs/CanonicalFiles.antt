@@ -2,6 +2,7 @@
 use Rattle.std.specs.Prelude.{ℕ, ◌+◌, ◌≡◌, ◌≤◌, ◌<◌, ◌==◌, nat_le, Bool, true, false, ◌&&◌, ◌||◌, if◌then◌else◌, List, [], ◌∷◌, ◌++◌, length, map, take, drop, codes, Option, Some, None, refl}
 use Rattle.std.specs.List.{All, flat_map, list_any, AllByRecursion as Every}
 use Rattle.std.proofs.Common.{sym, ap, ap₂, subst, ◌∙◌, arith, append_assoc}
+use Rattle.std.proofs.Math.Seq.{take-append_seam, drop-append_seam}
 use Rattle.std.proofs.lemmas.Bool.Decides.{nat_tests}
 use Rattle.std.proofs.lemmas.List.Elements.{All-from_recursion}
 use Rattle.std.proofs.lemmas.List.{append-nil, length-append, length-map}
@@ -20,7 +21,7 @@ use Rattle.lie_gram.proofs.LeadSides.{well_named}
 use Rattle.lie_gram.proofs.CanonicalTerms.{diff_low, right_low, read_small}
 use Rattle.lie_gram.proofs.CanonicalLeads.{unsolved_lead}
 use Rattle.lie_gram.proofs.PrintedBytes.{ArePlain, join, names_plain, plain_names, plain_coordinate, plain_sum, content_line, allowed_lines}
-use Rattle.lie_gram.proofs.PrintedCoordinates.{AreDistinct, take_front, drop_front}
+use Rattle.lie_gram.proofs.PrintedCoordinates.{AreDistinct}
 use Rattle.lie_gram.proofs.PrintedEquations.{solved_is, unsolved_is}
 use Rattle.lie_gram.proofs.PrintedFiles.{IsContentLine, contents_of_lines}
 use Rattle.lie_gram.proofs.PrintedLines.{header_is, names_line_is, end_is, line_distinct}
@@ -53,8 +54,8 @@ system_text S ind dep es p =
     let vars : List ℕ = names_line (codes "vars") (take S.p (ind ++ dep)) in
     let deps : List ℕ = names_line (codes "deps") (drop S.p (ind ++ dep)) in
     let equations : List ℕ = flat_map (equation_text S (ind ++ dep)) es in
-    let first : names_line (codes "vars") ind ≡ vars = ap (names_line (codes "vars")) (sym (ap (λ n. take n (ind ++ dep)) p ∙ take_front ind dep)) in
-    let second : names_line (codes "deps") dep ≡ deps = ap (names_line (codes "deps")) (sym (ap (λ n. drop n (ind ++ dep)) p ∙ drop_front ind dep)) in
+    let first : names_line (codes "vars") ind ≡ vars = ap (names_line (codes "vars")) (sym (ap (λ n. take n (ind ++ dep)) p ∙ take-append_seam ind dep)) in
+    let second : names_line (codes "deps") dep ≡ deps = ap (names_line (codes "deps")) (sym (ap (λ n. drop n (ind ++ dep)) p ∙ drop-append_seam ind dep)) in
     ap (λ l. codes "lie 1\n" ++ l)
     (ap₂ ◌++◌ first (ap₂ ◌++◌ second (body_text S (ind ++ dep) es)) ∙ sym (append_assoc (vars ++ deps) equations (codes "end\n") ∙ append_assoc vars deps (equations ++ codes "end\n")))
 

@@ -86,7 +86,8 @@ module _ (S : Space) (small : IsSmall S) where
       go zero e = let low : w < coordinates_up_to S 0 = (order_below S small.some_p small.some_q w 0).0 (omega arith) in let o = order_none in absurd (omega arith)
       go (suc n) e = omega arith
 
-  high_number : (c : Coordinate) → IsCoordinate S c → 1 ≤ order_of c → S.p + S.q ≤ number S c
+  -- a coordinate of order 1 or more is a derivative
+  pub high_number : (c : Coordinate) → IsCoordinate S c → 1 ≤ order_of c → S.p + S.q ≤ number S c
   high_number c is some = go (nat_lt (number S c) (S.p + S.q)) refl
     where
       go : (b : Bool) → nat_lt (number S c) (S.p + S.q) ≡ b → S.p + S.q ≤ number S c

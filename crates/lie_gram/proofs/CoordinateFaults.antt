@@ -135,7 +135,7 @@ coordinate_at-fails S names text s h =
     (λ some more. by_fails S names text (run Letter text) (behind Letter text) s (run_is Letter text) (record { are = run_in Letter text; some = grind (arith, nat_tests, some) }) (behind_outside Letter text) more)
 
 -- ---- each fault of a coordinate stops the reader
-run_nothing : (bs : List ℕ) → BeginsOutside Letter bs → (length (run Letter bs) == 0) ≡ true
+pub run_nothing : (bs : List ℕ) → BeginsOutside Letter bs → (length (run Letter bs) == 0) ≡ true
 run_nothing [] h = refl
 run_nothing (b ∷ bs) h = rw h refl
 

@@ -2,6 +2,7 @@
 use Rattle.std.specs.Prelude.{ℕ, ◌≡◌, Bool, true, false, ◌==◌, List, [], ◌∷◌, ◌++◌, length, ℤ, if◌then◌else◌, Ok, Err, refl}
 use Rattle.std.proofs.Common.{sym, ap, ◌∙◌, subst, arith}
 use Rattle.std.proofs.lemmas.Bool.Decides.{nat_tests}
+use Rattle.std.proofs.lemmas.List.{nil_from_length}
 use Rattle.lie_math.specs.Monomial.{Monomial}
 use Rattle.lie_math.specs.Polynomial.{polynomial_of}
 use Rattle.lie_geometry.specs.Coordinates.{Space}
@@ -38,11 +39,7 @@ none_small m = omega arith
 pub end_then : (x : List (Monomial × ℤ) × List ℕ) (ts : List (Monomial × ℤ)) → equation_end x ≡ Ok ts → (x.0 ≡ ts) × (x.1 ≡ [])
 end_then x ts h =
     let g = guard_else (length x.1 == 0) (stop Syntax x.1) (Ok x.0) ts h in
-    (ok_is x.0 ts g.1, empty x.1 (grind (arith, nat_tests, g.0)))
-  where
-    empty : (l : List ℕ) → length l ≡ 0 → l ≡ []
-    empty [] e = refl
-    empty (b ∷ bs) e = absurd (omega arith)
+    (ok_is x.0 ts g.1, nil_from_length x.1 (grind (arith, nat_tests, g.0)))
 
 right_is : (S : Space) (names text : List ℕ) (x : List (Monomial × ℤ) × List ℕ) (ts : List (Monomial × ℤ)) → IsSumRead S names false [] text x → right_by S names x.0 x.1 ≡ Ok ts → IsEquationRead S names text ts
 right_is S names text x ts left h = go x.1 refl h

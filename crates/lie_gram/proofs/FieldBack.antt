@@ -2,6 +2,7 @@
 use Rattle.std.specs.Prelude.{ℕ, ◌≡◌, ◌^◌, ◌<◌, ◌≤◌, ◌⊎◌, Bool, true, false, ◌==◌, ◌&&◌, nat_lt, List, [], ◌∷◌, ◌++◌, length, Option, Some, None, Ok, Err, refl}
 use Rattle.std.proofs.Common.{sym, ap, ◌∙◌, subst, inl, inr, arith, true≢false}
 use Rattle.std.proofs.lemmas.Bool.Decides.{nat_tests}
+use Rattle.lie_gram.proofs.CoordinateFaults.{run_nothing}
 use Rattle.lie_math.specs.Monomial.{Monomial, exponent, power_of, unit, ◌·◌}
 use Rattle.lie_gram.specs.declared.fault.BadKind.TheVariants.{Syntax, Number, UnknownName, Exponent}
 use Rattle.lie_gram.specs.declared.runs.Class.TheVariants.{Blank, Letter, Digit}
@@ -117,13 +118,9 @@ module _ (names whole : List ℕ) where
       let back : behind Letter (letter ∷ rest) ≡ rest = behind_front Letter (letter ∷ []) rest (is, tt) ∙ behind_none Letter rest ended in
       rw (front, back, named) refl
 
-  no_run : (bs : List ℕ) → BeginsOutside Letter bs → (length (run Letter bs) == 0) ≡ true
-  no_run [] h = refl
-  no_run (b ∷ bs) h = rw h refl
-
   name_nothing : (text : List ℕ) → BeginsOutside Letter text → name_at names whole text ≡ Err (stop Syntax text)
   unfolding name_at
-  name_nothing text h = rw (no_run text h) refl
+  name_nothing text h = rw (run_nothing text h) refl
 
   no_place : (word : List ℕ) → (IsName names word → ⊥) → place_of_word names word ≡ None
   no_place [] h = refl

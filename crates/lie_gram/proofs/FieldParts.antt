@@ -8,6 +8,7 @@ use Rattle.std.proofs.lemmas.Int.{unsigned_abs-mul}
 use Rattle.std.proofs.lemmas.List.{get_or_past, ext_get_or}
 use Rattle.std.proofs.lemmas.Nat.Gcd.{dvd_refl, dvd_trans, dvd_antisymm, le_of_dvd}
 use Rattle.std.proofs.Math.Nat.{mul-div_cancel', mul-dvd-mul_left, dvd_of_mul-dvd-mul_left, dvd-mul_right, dvd-mul_left}
+use Rattle.lie_ring.proofs.Fronts.{every-weaken}
 use Rattle.lie_math.specs.FiniteSumLaws.{value-of, of_list, list-of}
 use Rattle.lie_math.specs.Monomial.{Monomial, unit, exponent}
 use Rattle.lie_math.specs.Polynomial.{WholePolynomial, terms, polynomial_of, constant, 0ᴾ, ◌*ᴾ◌}
@@ -37,10 +38,6 @@ use Rattle.lie_math.specs.Codes.{same_vector_field}
 use Rattle.lie_gram.proofs.FieldSteps.{divisor_some, times_entries_list, quotient_some}
 
 -- ---- divisors of all numbers
-every_map : {X : Type 0} (P Q : X → Type 0) → ((x : X) → P x → Q x) → (xs : List X) → Every P xs → Every Q xs
-every_map P Q f [] h = tt
-every_map P Q f (x ∷ xs) h = (f x h.0, every_map P Q f xs h.1)
-
 content_divides : (n : ℕ) (es : List (Monomial × ℤ)) → content_from n es ∣ n
 content_divides n [] = dvd_refl n
 content_divides n (e ∷ es) = dvd_trans (content_from (common_divisor (unsigned_abs e.1) n) es) (content_divides (common_divisor (unsigned_abs e.1) n) es) (common_divisor_is (unsigned_abs e.1) n).1
@@ -65,7 +62,7 @@ contents_divides n (p ∷ ps) = dvd_trans (contents_from (content_from n p.list)
 pub contents_parts : (n : ℕ) (ps : List WholePolynomial) → Every (DividesTerms (contents_from n ps)) ps
 contents_parts n [] = tt
 contents_parts n (p ∷ ps) = (
-  every_map (λ (e : Monomial × ℤ). content_from n p.list ∣ unsigned_abs e.1) (λ (e : Monomial × ℤ). contents_from (content_from n p.list) ps ∣ unsigned_abs e.1)
+  every-weaken (λ (e : Monomial × ℤ). content_from n p.list ∣ unsigned_abs e.1) (λ (e : Monomial × ℤ). contents_from (content_from n p.list) ps ∣ unsigned_abs e.1)
       (λ e h. dvd_trans (contents_from (content_from n p.list) ps) (contents_divides (content_from n p.list) ps) h) p.list (content_entries n p.list),
   contents_parts (content_from n p.list) ps,
 )
@@ -94,7 +91,7 @@ multiple_entries c k [] h = tt
 multiple_entries c k (e ∷ es) h = (subst (λ z. c * k ∣ z) (sym (unsigned_abs-mul (pos c) e.1)) (mul-dvd-mul_left k c h.0), multiple_entries c k es h.1)
 
 all_entries : (k : ℕ) (es : List (Monomial × ℤ)) → Every (λ (e : Monomial × ℤ). k ∣ unsigned_abs e.1) es → Every (λ (e : Monomial × ℤ). k ∣ 1 * unsigned_abs e.1) es
-all_entries k es h = every_map (λ (e : Monomial × ℤ). k ∣ unsigned_abs e.1) (λ (e : Monomial × ℤ). k ∣ 1 * unsigned_abs e.1) (λ e d. subst (λ z. k ∣ z) (one_times (unsigned_abs e.1)) d) es h
+all_entries k es h = every-weaken (λ (e : Monomial × ℤ). k ∣ unsigned_abs e.1) (λ (e : Monomial × ℤ). k ∣ 1 * unsigned_abs e.1) (λ e d. subst (λ z. k ∣ z) (one_times (unsigned_abs e.1)) d) es h
   where
     one_times : (n : ℕ) → n ≡ 1 * n
     one_times n = omega arith

@@ -3,7 +3,7 @@ use Rattle.std.specs.Prelude.{ℕ, zero, suc, ◌≡◌, ◌<◌, ◌≤◌, Boo
 use Rattle.std.specs.declared.result.Result.{Result}
 use Rattle.std.proofs.Common.{append_assoc, sym, ap, ◌∙◌, subst, inl, inr, arith}
 use Rattle.std.proofs.lemmas.Bool.Decides.{nat_tests}
-use Rattle.std.proofs.lemmas.List.{append-nil}
+use Rattle.std.proofs.lemmas.List.{append-nil, nil_from_length}
 use Rattle.lie_math.specs.Monomial.{Monomial, power_of, unit, ◌·◌}
 use Rattle.lie_gram.specs.declared.fault.BadKind.TheVariants.{Syntax, Number}
 use Rattle.lie_gram.specs.declared.stop.Stop.{Stop}
@@ -272,11 +272,7 @@ zero-is text h = go (after_blanks text) refl h
     by_test c cs true at is e =
         let zero : c ≡ 48 = grind (arith, nat_tests, is) in
         let none : length (after_blanks cs) ≡ 0 = grind (arith, nat_tests, e) in
-        (cs, blanks_to text (48 ∷ cs) (at ∙ ap (λ b. b ∷ cs) zero), blanks_only cs (empty (after_blanks cs) none))
-      where
-        empty : (bs : List ℕ) → length bs ≡ 0 → bs ≡ []
-        empty [] e = refl
-        empty (b ∷ bs) e = absurd (omega arith)
+        (cs, blanks_to text (48 ∷ cs) (at ∙ ap (λ b. b ∷ cs) zero), blanks_only cs (nil_from_length (after_blanks cs) none))
     by_test c cs false at is e = cc
 
     go : (bs : List ℕ) → after_blanks text ≡ bs → zero_by bs ≡ true → IsZeroText text

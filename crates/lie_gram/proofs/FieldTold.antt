@@ -4,6 +4,7 @@ use Rattle.std.specs.declared.result.Result.{Result}
 use Rattle.std.specs.Str.Parse.{digits_value}
 use Rattle.std.proofs.Common.{sym, ap, ◌∙◌, subst, inl, inr, arith}
 use Rattle.std.proofs.lemmas.Bool.Decides.{nat_tests}
+use Rattle.lie_gram.proofs.TermFaults.{digit_clash}
 use Rattle.lie_math.specs.Monomial.{Monomial, exponent, power_of, ◌·◌}
 use Rattle.lie_gram.specs.declared.fault.BadKind.TheVariants.{Syntax, Number, UnknownName, Exponent}
 use Rattle.lie_gram.specs.declared.runs.Class.TheVariants.{Letter, Digit}
@@ -127,13 +128,6 @@ under_told text = go (after_blanks text) refl
     go : (bs : List ℕ) → after_blanks text ≡ bs → Told (IsUnder text) (IsUnderFault text) (under_by text bs)
     go [] at = bare (subst (IsNot 47) (sym at) tt)
     go (c ∷ cs) at = by_test c cs at slashed bare
-
-pub digit_clash : (bs : List ℕ) → BeginsDigit bs → BeginsOutside Digit bs → ⊥
-digit_clash [] k l = k
-digit_clash (c ∷ cs) k l = differ (sym k ∙ l)
-  where
-    differ : true ≡ false → ⊥
-    differ e = cc
 
 abbrev IsFractionStar : List ℕ → (ℕ × ℕ) × List ℕ → Type 0
 IsFractionStar text c = (behind : List ℕ) × IsFraction text c.0.0 c.0.1 behind × IsSign 42 behind c.1

@@ -44,7 +44,7 @@ mod PrintedTexts
 pub mod PrintedLists
 mod RightSideSteps
 pub mod FileCoordinates
-mod LeadSides
+pub mod LeadSides
 mod RightSideLists
 mod PrintedCoordinates
 mod PrintedPowers

@@ -5,6 +5,7 @@ use Rattle.std.specs.List.{list_any}
 use Rattle.std.proofs.Common.{append_assoc, length-append, sym, ap, ◌∙◌, subst, arith}
 use Rattle.std.proofs.lemmas.Bool.Decides.{nat_tests}
 use Rattle.std.proofs.lemmas.List.{append-nil}
+use Rattle.std.proofs.lemmas.Bool.{false_from_ne_true}
 use Rattle.lie_gram.specs.declared.fault.BadKind.TheVariants.{UnknownWord, NameBad, NameTwice, TooManyNames, Syntax}
 use Rattle.lie_gram.specs.declared.runs.Class.TheVariants.{Blank, Letter, Word}
 use Rattle.lie_gram.specs.declared.stop.Stop.{Stop}
@@ -63,11 +64,7 @@ is-name_fault given count word text s (no_letter none) = go word none
   where
     go : (w : List ℕ) → (IsLetter w → ⊥) → name_of given count w text ≡ Err (stop NameBad text)
     go [] k = refl
-    go (c ∷ []) k = rw (other (is_in Letter c) (λ e. k (c, refl, e))) refl
-      where
-        other : (b : Bool) → (b ≡ true → ⊥) → b ≡ false
-        other true e = absurd (e refl)
-        other false e = refl
+    go (c ∷ []) k = rw (false_from_ne_true (is_in Letter c) (λ e. k (c, refl, e))) refl
     go (c ∷ d ∷ cs) k = refl
 is-name_fault given count word text s (past_four letter high) =
     let past : nat_le 4 count ≡ true = grind (arith, nat_tests, high) in

@@ -1,8 +1,8 @@
 -- The text of a number is a number, and that of a coordinate is the coordinate.
-use Rattle.std.specs.Prelude.{ℕ, zero, suc, ◌+◌, ◌-◌, ◌^◌, ◌==◌, ◌≡◌, ◌≤◌, ◌<◌, nat_lt, Bool, true, false, ◌||◌, List, [], ◌∷◌, ◌++◌, length, take, drop, replicate, get_or, decimal, Some, IsSome, if◌then◌else◌, refl}
+use Rattle.std.specs.Prelude.{ℕ, zero, suc, ◌+◌, ◌-◌, ◌^◌, ◌==◌, ◌≡◌, ◌≤◌, ◌<◌, nat_lt, Bool, true, false, ◌||◌, List, [], ◌∷◌, ◌++◌, length, take, drop, replicate, decimal, Some, IsSome, if◌then◌else◌, refl}
 use Rattle.std.specs.List.{list_any, AllByRecursion}
 use Rattle.std.proofs.Common.{sym, ap, ap₂, subst, ◌∙◌, arith, append_assoc, inl, inr}
-use Rattle.std.proofs.Math.Seq.{set-append_seam}
+use Rattle.std.proofs.Math.Seq.{set-append_seam, get_or-append_seam, take-append_seam, drop-append_seam, drop-append-add}
 use Rattle.std.proofs.lemmas.Bool.Decides.{nat_tests}
 use Rattle.std.proofs.lemmas.Fmt.{decimal_is_IsNumeral_wide}
 use Rattle.std.proofs.lemmas.List.{append-nil, length-append}
@@ -65,32 +65,14 @@ named_at before (n ∷ ns) h (suc i) lt =
       named = ap (λ l. place_of l r.letter) (sym (append_assoc before (n ∷ []) ns)) ∙ r.named ∙ ap Some e;
     }
 
-pub drop_behind : (xs ys : List ℕ) (i : ℕ) → drop (length xs + i) (xs ++ ys) ≡ drop i ys
-drop_behind [] ys i = ap (λ n. drop n ys) (plain i)
-  where
-    plain : (i : ℕ) → 0 + i ≡ i
-    plain i = omega arith
-drop_behind (x ∷ xs) ys i = ap (λ n. drop n (x ∷ (xs ++ ys))) (next (length xs) i) ∙ drop_behind xs ys i
-  where
-    next : (k i : ℕ) → suc k + i ≡ suc (k + i)
-    next k i = omega arith
-
 pub name_in_front : (xs ys : List ℕ) (i : ℕ) → i < length xs → name_at (xs ++ ys) i ≡ name_at xs i
 name_in_front [] ys i lt = absurd (omega arith)
 name_in_front (x ∷ xs) ys zero lt = refl
 name_in_front (x ∷ xs) ys (suc i) lt = name_in_front xs ys i (omega arith)
 
-pub take_front : (xs ys : List ℕ) → take (length xs) (xs ++ ys) ≡ xs
-take_front [] ys = refl
-take_front (x ∷ xs) ys = ap (λ l. x ∷ l) (take_front xs ys)
-
 -- ---- counts
-get_seam : (xs ys : List ℕ) (k : ℕ) → get_or (xs ++ k ∷ ys) (length xs) 0 ≡ k
-get_seam [] ys k = refl
-get_seam (x ∷ xs) ys k = get_seam xs ys k
-
 one_more_seam : (xs ys : List ℕ) (k : ℕ) → one_more (xs ++ k ∷ ys) (Some (length xs)) ≡ xs ++ (k + 1) ∷ ys
-one_more_seam xs ys k = set-append_seam xs k ys _ ∙ ap (λ n. xs ++ (n + 1) ∷ ys) (get_seam xs ys k)
+one_more_seam xs ys k = set-append_seam xs k ys _ ∙ ap (λ n. xs ++ (n + 1) ∷ ys) (get_or-append_seam xs k ys 0)
 
 counts_repeated : (ns xs ys more : List ℕ) (l k c : ℕ) → place_of ns l ≡ Some (length xs) → counts_from ns (xs ++ k ∷ ys) (repeated c (l ∷ []) ++ more) ≡ counts_from ns (xs ++ (k + c) ∷ ys) more
 unfolding repeated
@@ -186,22 +168,18 @@ module _ (ind dep : List ℕ) (distinct : AreDistinct [] ind) where
       let zeros : 0 ∷ 0 ∷ 0 ∷ 0 ∷ [] ≡ replicate (length J) 0 ++ replicate (4 - length J) 0 = ap (λ n. replicate n 0) (four (length J) (omega arith)) ∙ parted_zeros (length J) (4 - length J) in
       ap (λ K. take (length ind) (counts_from ind K (letters_from (ind ++ dep) 0 J))) zeros
       ∙ ap (take (length ind)) (letters_counts 0 J [] (replicate (4 - length J) 0) refl (omega arith))
-      ∙ ap (λ n. take n (J ++ replicate (4 - length J) 0)) (sym at) ∙ take_front J (replicate (4 - length J) 0)
+      ∙ ap (λ n. take n (J ++ replicate (4 - length J) 0)) (sym at) ∙ take-append_seam J (replicate (4 - length J) 0)
     where
       four : (n : ℕ) → n ≤ 4 → 4 ≡ n + (4 - n)
       four n le = omega arith
 
-pub drop_front : (xs ys : List ℕ) → drop (length xs) (xs ++ ys) ≡ ys
-drop_front [] ys = refl
-drop_front (x ∷ xs) ys = drop_front xs ys
-
 -- ---- coordinates
 module _ (S : Space) (ind dep : List ℕ) (p : S.p ≡ length ind) (q : S.q ≡ length dep) (few : length ind ≤ 4) (distinct : AreDistinct [] ind) (others : AreDistinct [] dep) (all : AreDistinct [] (ind ++ dep)) where
   take_names : take S.p (ind ++ dep) ≡ ind
-  take_names = ap (λ n. take n (ind ++ dep)) p ∙ take_front ind dep
+  take_names = ap (λ n. take n (ind ++ dep)) p ∙ take-append_seam ind dep
 
   drop_names : drop S.p (ind ++ dep) ≡ dep
-  drop_names = ap (λ n. drop n (ind ++ dep)) p ∙ drop_front ind dep
+  drop_names = ap (λ n. drop n (ind ++ dep)) p ∙ drop-append_seam ind dep
 
   variable_is : (i : ℕ) (rest : List ℕ) → i < length (ind ++ dep) → BeginsOutside Letter rest → IsNot 95 rest → IsCoordinateAt S (ind ++ dep) (name_at (ind ++ dep) i ++ rest) (variable_at S i) rest
   variable_is i rest lt ended no_line =
@@ -227,7 +205,7 @@ module _ (S : Space) (ind dep : List ℕ) (p : S.p ≡ length ind) (q : S.q ≡ 
           letter = n.letter;
           place = a;
           by = by;
-          spelled = ap (λ t. t ++ 95 ∷ by) (ap (λ k. name_at (ind ++ dep) (k + a)) p ∙ ap (take 1) (drop_behind ind dep a) ∙ n.spelled);
+          spelled = ap (λ t. t ++ 95 ∷ by) (ap (λ k. name_at (ind ++ dep) (k + a)) p ∙ ap (take 1) (drop-append-add ind dep a) ∙ n.spelled);
           is_letter = n.is_letter;
           named = ap (λ l. place_of l n.letter) drop_names ∙ n.named ∙ ap Some (nat_idl a);
           are_letters = letters_all ind dep distinct (λ l. is_in Letter l ≡ true) (λ l i h k. h) 0 J (omega arith);

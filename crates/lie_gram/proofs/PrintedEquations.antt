@@ -3,14 +3,13 @@ use Rattle.std.specs.Prelude.{ℕ, ◌^◌, ◌≡◌, ◌≤◌, ◌<◌, ◌�
 use Rattle.std.specs.List.{AllByRecursion as Every}
 use Rattle.std.proofs.Common.{sym, ap, ap₂, subst, ◌∙◌, append_assoc, inl, inr}
 use Rattle.std.proofs.lemmas.List.{append-nil}
+use Rattle.lie_math.proofs.Differences.{less_difference}
 use Rattle.lie_math.specs.FiniteSum as finite
 use Rattle.lie_math.specs.FiniteSumLaws.{of_list, same_list, plus_comm, plus_idl}
 use Rattle.lie_math.specs.Monomial.{Monomial, unit, single}
 use Rattle.lie_math.specs.Polynomial.{WholePolynomial, terms, term, polynomial_of, negᴾ, 0ᴾ, ◌+ᴾ◌}
-use Rattle.lie_math.specs.PolynomialRing.{polynomial_ring}
 use Rattle.lie_math.proofs.CanonicalLists.{of-append, of-cons}
 use Rattle.lie_math.proofs.Limits as limits
-use Rattle.lie_math.proofs.RingSolver.{v, ◌⊕◌, ⊖, solve, listed}
 use Rattle.lie_math.proofs.TermWise.{polynomial_of-times}
 use Rattle.lie_geometry.specs.Coordinates.{Space, Coordinate, order_of, number}
 use Rattle.lie_jet.specs.Jets.{IsSmall}
@@ -59,9 +58,6 @@ read_negated : (es : List (Monomial × ℤ)) → polynomial_of (read_terms true 
 read_negated [] = nothing ∙ polynomial_of-times unit (negsuc 0) []
 read_negated (e ∷ es) = ap polynomial_of (sym (times_negated (e ∷ es))) ∙ polynomial_of-times unit (negsuc 0) (e ∷ es)
 
-pub twice_less : (a b : WholePolynomial) → a +ᴾ negᴾ (a +ᴾ negᴾ b) ≡ b
-twice_less a b = solve polynomial_ring (listed a (a ∷ b ∷ [])) (v 0 ⊕ ⊖ (v 0 ⊕ ⊖ (v 1))) (v 1) refl
-
 -- the lead minus the right side is the polynomial again
 pub solved_means : (S : Space) (c : Coordinate) (diff : WholePolynomial) → diff ≡ polynomial_of ((single (number S c), pos 1) ∷ read_terms true (right_side S c diff).list)
 solved_means S c diff =
@@ -69,7 +65,7 @@ solved_means S c diff =
     let R : WholePolynomial = right_side S c diff in
     sym (of-cons terms (single (number S c), pos 1) (read_terms true R.list)
     ∙ ap₂ ◌+ᴾ◌ (sym (limits.term_is (single (number S c)) (pos 1))) (read_negated R.list ∙ ap negᴾ (of_list terms R))
-    ∙ twice_less x diff)
+    ∙ less_difference x diff)
 
 pub same_terms : (es : List (Monomial × ℤ)) → turned_terms false es ≡ es
 same_terms [] = refl

@@ -4,8 +4,9 @@ use Rattle.std.specs.List.{flat_map, AllByRecursion as Every}
 use Rattle.std.proofs.Common.{sym, ap, subst, ◌∙◌, arith, append_assoc, inl, inr}
 use Rattle.std.proofs.lemmas.Bool.Decides.{nat_tests}
 use Rattle.std.proofs.lemmas.List.{append-nil}
+use Rattle.lie_math.proofs.Monomial.{·_idr}
 use Rattle.lie_math.specs.FiniteSum as finite
-use Rattle.lie_math.specs.FiniteSumLaws.{plus_idl, plus_assoc, plus_comm, of_list}
+use Rattle.lie_math.specs.FiniteSumLaws.{plus_idl, plus_assoc, of_list}
 use Rattle.lie_math.specs.Monomial.{Monomial, powers, unit, power_of, monomial_of, ◌·◌}
 use Rattle.lie_math.proofs.CanonicalLists.{of-cons}
 use Rattle.lie_geometry.specs.Coordinates.{Space, coordinate, coordinates_up_to}
@@ -27,10 +28,7 @@ use Rattle.lie_gram.proofs.PrintedCoordinates.{AreDistinct, decimal_number, coor
 -- ---- products
 product_none : (m : Monomial) → m · monomial_of [] ≡ m
 unfolding finite.none
-product_none m = none_right m
-  where
-    none_right : (m : Monomial) → m · unit ≡ m
-    none_right m = plus_comm powers m unit ∙ plus_idl powers m
+product_none m = ·_idr m
 
 product_list : (m : Monomial) (ps : List (ℕ × ℕ)) → product m ps ≡ m · monomial_of ps
 unfolding finite.term

@@ -131,22 +131,22 @@ module _ (S : Space) (names : List ℕ) (s : Stop) where
 abbrev with_one : Result (Monomial × List ℕ) Stop → Result (ℕ × Monomial × List ℕ) Stop
 with_one r = r >>= λ x. Ok (1, x.0, x.1)
 
+pub digit_clash : (bs : List ℕ) → BeginsDigit bs → BeginsOutside Digit bs → ⊥
+digit_clash [] k l = k
+digit_clash (c ∷ cs) k l = differ (sym k ∙ l)
+  where
+    differ : true ≡ false → ⊥
+    differ e = cc
+
 abbrev with_unit : Result (ℕ × List ℕ) Stop → Result (ℕ × Monomial × List ℕ) Stop
 with_unit r = r >>= λ n. Ok (n.0, unit, n.1)
 
 literal_at-fails : (text : List ℕ) (s : Stop) → BeginsDigit (after_blanks text) → literal_at text ≡ Err s → (n : ℕ) × (rest : List ℕ) × IsNumber text n rest × (2 ^ 127 ≤ n) × (stop Number (after_blanks text) ≡ s)
 unfolding literal_at
 literal_at-fails text s digit h =
-    bind_fails (digits_at text) _ s h (λ e. absurd (clash (after_blanks text) digit (digits_at-fails text s e).0)) (λ d is_d more.
+    bind_fails (digits_at text) _ s h (λ e. absurd (digit_clash (after_blanks text) digit (digits_at-fails text s e).0)) (λ d is_d more.
     let at = digits_at-is text d is_d in go d at (value_of d.0) refl more)
   where
-    clash : (bs : List ℕ) → BeginsDigit bs → BeginsOutside Digit bs → ⊥
-    clash [] k l = k
-    clash (c ∷ cs) k l = let e : true ≡ false = sym k ∙ l in absurd (differ e)
-      where
-        differ : true ≡ false → ⊥
-        differ e = cc
-
     go : (d : List ℕ × List ℕ) → AreDigitsAt text d.0 d.1 → (o : Option ℕ) → value_of d.0 ≡ o → literal_by o (after_blanks text) d.1 ≡ Err s
         → (n : ℕ) × (rest : List ℕ) × IsNumber text n rest × (2 ^ 127 ≤ n) × (stop Number (after_blanks text) ≡ s)
     go d at None none k = (digits_value 10 d.0, d.1, digits_make text d.0 d.1 at, large_digits d.0 at.are none, err_is (stop Number (after_blanks text)) s k)

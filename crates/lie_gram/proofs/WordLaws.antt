@@ -5,7 +5,7 @@ use Rattle.std.specs.List.{list_any}
 use Rattle.std.specs.Cmp.Lexicographic.{pointwise, same_text}
 use Rattle.std.proofs.Common.{append_assoc, length-append, sym, ap, ◌∙◌, subst, arith}
 use Rattle.std.proofs.lemmas.Bool.Decides.{nat_tests}
-use Rattle.std.proofs.lemmas.List.{append-nil}
+use Rattle.std.proofs.lemmas.List.{append-nil, nil_from_length}
 use Rattle.lie_gram.specs.declared.fault.BadKind.TheVariants.{NameBad, NameTwice, TooManyNames, Syntax}
 use Rattle.lie_gram.specs.declared.runs.Class.TheVariants.{Blank, Letter, Word}
 use Rattle.lie_gram.specs.declared.stop.Stop.{Stop}
@@ -85,11 +85,7 @@ pub is-other_word : (keyword other text rest : List ℕ) → IsPlain other → I
 is-other_word keyword other text rest plain h = ap (λ w. pointwise nat_eq w keyword) (word_is other text rest plain h).0
 
 pub nothing_left : (text : List ℕ) → (length (after_blanks text) == 0) ≡ true → AreBlanks text
-nothing_left text h = blanks_only text (empty (after_blanks text) (grind (arith, nat_tests, h)))
-  where
-    empty : (l : List ℕ) → length l ≡ 0 → l ≡ []
-    empty [] e = refl
-    empty (b ∷ bs) e = absurd (omega arith)
+nothing_left text h = blanks_only text (nil_from_length (after_blanks text) (grind (arith, nat_tests, h)))
 
 pub nothing_more : (text : List ℕ) → AreBlanks text → (length (after_blanks text) == 0) ≡ true
 nothing_more text h = rw (only_blanks text h) refl

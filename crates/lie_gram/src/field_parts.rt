@@ -122,18 +122,6 @@ fn divisor_of_all(alloc: Global, number: u128, parts: &[JetPoly]) -> Result<u128
     Ok(divisor)
 }
 
-// A number divided by one that divides it.
-fn exact_quotient(number: Whole, divisor: Whole) -> Whole
-    requires apart { ¬ (divisor ≡ pos 0) }
-    requires divides { unsigned_abs divisor ∣ unsigned_abs number }
-    ensures { divisor *ℤ result ≡ number }
-{
-    match Whole::new(number.get() / divisor.get()) {
-        Some(quotient) => quotient,
-        None => unreachable!(),
-    }
-}
-
 // A number divided by one of at least 1 that divides it.
 fn quotient(number: Whole, divisor: u128) -> Whole
     requires some { 1 ≤ divisor }
@@ -142,7 +130,7 @@ fn quotient(number: Whole, divisor: u128) -> Whole
     ensures { pos divisor *ℤ result ≡ number }
 {
     match Whole::new(divisor as i128) {
-        Some(divisor) => exact_quotient(number, divisor),
+        Some(divisor) => number.exact_quotient(divisor),
         None => unreachable!(),
     }
 }

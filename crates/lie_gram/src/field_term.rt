@@ -39,16 +39,11 @@ pub fn field_term_at<'a>(
     let (fraction, behind) = coefficient_at(text)?;
     let (place, monomial, rest) = factors_at(alloc, names, Mono::one(alloc), behind)?;
     let divisor = common_divisor(fraction.numerator, fraction.denominator);
-    match signed(negative, fraction.numerator / divisor) {
-        Some(number) => Ok((
-            FieldTerm {
-                place,
-                monomial,
-                number,
-                over: fraction.denominator / divisor,
-            },
-            rest,
-        )),
-        None => unreachable!(),
-    }
+    let term = FieldTerm {
+        place,
+        monomial,
+        number: signed(negative, fraction.numerator / divisor),
+        over: fraction.denominator / divisor,
+    };
+    Ok((term, rest))
 }

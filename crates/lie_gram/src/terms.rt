@@ -6,7 +6,7 @@ ghost use Rattle.std.specs.Global.{Vec};
 ghost use Rattle.lie_gram.specs.Terms.{with_term};
 ghost use Rattle.lie_ring.specs.Ratios.{signed};
 
-use lie_ring::{Mono, NoMemory, Whole};
+use lie_ring::{Mono, NoMemory, Ring, Whole};
 use std::alloc::Global;
 use std::collections::BTreeMap;
 
@@ -31,12 +31,14 @@ pub fn grown(size: u128, number: u128) -> Option<u128>
 }
 
 /// The number with a sign.
-pub fn signed(negative: bool, number: u128) -> Option<Whole>
+pub fn signed(negative: bool, number: u128) -> Whole
     requires { number < 2 ^ 127 }
-    ensures { result ≡ Some (signed negative number) }
+    ensures { result ≡ signed negative number }
 {
-    let value = number as i128;
-    Whole::new(if negative { -value } else { value })
+    match Whole::new(number as i128) {
+        Some(size) => { if negative { size.neg() } else { size } }
+        None => unreachable!(),
+    }
 }
 
 impl Terms {
@@ -70,15 +72,14 @@ impl Terms {
     {
         let key = Vec::from_slice(alloc, mono.pairs())?;
         let size = self.size_at(&key);
-        match (grown(size, number), signed(negative, number)) {
-            (Some(total), Some(value)) => {
+        match grown(size, number) {
+            Some(total) => {
                 let Terms { list, sizes } = self;
                 let sizes = with_size(sizes, key, total)?;
-                let list = with_last(list, mono, value)?;
+                let list = with_last(list, mono, signed(negative, number))?;
                 Ok(Some(Terms { list, sizes }))
             }
-            (None, _) => Ok(None),
-            (_, None) => unreachable!(),
+            None => Ok(None),
         }
     }
 }

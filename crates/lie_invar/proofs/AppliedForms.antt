@@ -1,6 +1,7 @@
 -- The steps of applying forms to a polynomial: what is put is bounded by its absolute values, so that a cause at one put is a cause of the whole bulk.
 use Rattle.std.specs.Prelude.{◌≡◌, ℕ, zero, suc, ◌+◌, ◌<◌, ◌≤◌, List, [], ◌∷◌, length, take, slice_index_or, ℤ, pos, unsigned_abs}
 use Rattle.std.proofs.Common.{refl, sym, ap, ap₂, subst, subst₂, ◌∙◌, arith, get_or, not, T}
+use Rattle.std.proofs.lemmas.List.{nil_from_length}
 use Rattle.lie_math.specs.Counts.{Derivative}
 use Rattle.lie_math.specs.Derivation.{numbers_below}
 use Rattle.lie_math.specs.FiniteSum as finite
@@ -20,7 +21,7 @@ use Rattle.lie_ring.specs.declared.failures.PolyFail.{PolyFail}
 use Rattle.lie_jet.specs.Derivatives.{derivative_of, derivative_terms}
 use Rattle.lie_jet.specs.FormLimits.{IsCoefficientCause}
 use Rattle.lie_jet.specs.declared.derivative.Der.{Der}
-use Rattle.lie_jet.proofs.DerivativeLists.{length_map}
+use Rattle.std.proofs.lemmas.List.{length-map}
 use Rattle.lie_jet.proofs.FormBounds.{coefficient_absolute, IsBound, plain_bound, absolute_bound, at, IsFormBound, IsPlain, cause_bound, form_trans, form_plain, form_sum, form_one, form_first, over_bound, fewer_bound, over_entries, entries_bound, front_bound, list_sizes, form_sizes, sizes_bound}
 use Rattle.lie_jet.proofs.FormSteps.{part_cause, put_cause, entries_step, over_sizes}
 use Rattle.lie_invar.specs.AppliedForms.{applied_sizes}
@@ -57,7 +58,7 @@ module _ (s : WholePolynomial) (F : LinearForm) (ts : List (Der × WholePolynomi
 
   pub products_end : (E G : LinearForm) (k : ℕ) → length ts ≤ k → G ≡ E +ᶠ over_entries (times_term s) (take k (derivative_terms ts)) → G ≡ E +ᶠ times_form s F
   products_end E G k h g =
-      g ∙ ap (λ es. E +ᶠ over_entries (times_term s) es) (all_taken (derivative_terms ts) k (subst (λ n. n ≤ k) (sym (length_map (λ (t : Der × WholePolynomial). (derivative_of t.0, t.1)) ts)) h) ∙ all)
+      g ∙ ap (λ es. E +ᶠ over_entries (times_term s) es) (all_taken (derivative_terms ts) k (subst (λ n. n ≤ k) (sym (length-map ts (λ (t : Der × WholePolynomial). (derivative_of t.0, t.1)))) h) ∙ all)
 
   pub products_cause : (fail : PolyFail) (E G : LinearForm) (k : ℕ) (x : Der × WholePolynomial) → k < length ts → x ≡ get_or ts k x → G ≡ E +ᶠ over_entries (times_term s) (take k (derivative_terms ts))
       → IsCoefficientCause fail (each_coefficient absolute G +ᶠ times_size s (derivative_of x.0) x.1) → IsCoefficientCause fail (each_coefficient absolute E +ᶠ times_form (absolute s) (each_coefficient absolute F))
@@ -115,11 +116,7 @@ pub same_slope : (fail : PolyFail) (E F : LinearForm) (w : ℕ) (P s : WholePoly
 same_slope fail E F w P s e cause = subst (λ t. IsCoefficientCause fail (each_coefficient absolute E +ᶠ times_form t (each_coefficient absolute F))) (ap absolute e ∙ absolute_partial w P) cause
 
 pub no_products : (E F : LinearForm) (s : WholePolynomial) → length F.list ≡ 0 → E ≡ E +ᶠ times_form s F
-no_products E F s none = sym (plus_comm forms E (times_form s F) ∙ ap (λ es. over_entries (times_term s) es +ᶠ E) (empty F.list none) ∙ plus_idl forms E)
-  where
-    empty : (es : List (Derivative × WholePolynomial)) → length es ≡ 0 → es ≡ []
-    empty [] e = refl
-    empty (x ∷ es) e = absurd (omega arith)
+no_products E F s none = sym (plus_comm forms E (times_form s F) ∙ ap (λ es. over_entries (times_term s) es +ᶠ E) (nil_from_length F.list none) ∙ plus_idl forms E)
 
 -- ---- the forms, one by one
 pub at_place : {X : Type 0} (xs : List X) (k : ℕ) (x d : X) → k < length xs → x ≡ slice_index_or xs k x → x ≡ slice_index_or xs k d

@@ -3,6 +3,7 @@ use Rattle.std.specs.Prelude.{◌≡◌, ℕ, Bool, true, false, cond, ℤ, pos,
 use Rattle.std.specs.Ordering.{eq_by_cmp}
 use Rattle.std.proofs.Common.{refl, sym, ap, ap₂, ◌∙◌, arith, true≢false}
 use borrow.Author.Differences.{ints}
+use Rattle.lie_math.proofs.Differences.{negative_twice}
 use Rattle.lie_math.specs.FiniteSumLaws.{ext, value-none, value-plus, value-term}
 use Rattle.lie_math.specs.Limits.{absolute}
 use Rattle.lie_math.specs.Monomial.{Monomial, monomial_cmp, single}
@@ -60,12 +61,6 @@ module _ (r : SolvedEquation) (free : FreeOf r.lead r.right) where
           ∙ ap (λ t. cond t (pos (unsigned_abs r.factor)) (pos 0) +ℤ pos (unsigned_abs (coefficient r.right m))) (sym e)
 
 -- ---- with a sign
-negative_twice : (p : WholePolynomial) → negᴾ (negᴾ p) ≡ p
-negative_twice p = ext terms (negᴾ (negᴾ p)) p (λ m. same _ _ _ (negative_coefficient (negᴾ p) m) (negative_coefficient p m))
-  where
-    same : (a b x : ℤ) → a +ℤ b ≡ pos 0 → b +ℤ x ≡ pos 0 → a ≡ x
-    same a b x e f = omega (arith, ints)
-
 absolute_negative : (p : WholePolynomial) → absolute (negᴾ p) ≡ absolute p
 absolute_negative p = ext terms (absolute (negᴾ p)) (absolute p) (λ m. coefficient_absolute (negᴾ p) m ∙ same (coefficient (negᴾ p) m) (coefficient p m) (negative_coefficient p m) ∙ sym (coefficient_absolute p m))
   where

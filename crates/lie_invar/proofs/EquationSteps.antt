@@ -6,6 +6,7 @@ use Rattle.std.specs.List.{AllByRecursion as Every, Any, Contains}
 use Rattle.std.specs.List.Sorted.{IsStrictlySortedBy}
 use Rattle.std.specs.Ordering.{eq_by_cmp}
 use Rattle.std.specs.Cmp.{tied_itself}
+use Rattle.lie_math.proofs.SomeElement.{any_head, any_tail, any_left, any_right}
 use Rattle.lie_math.specs.FiniteSum as finite
 use Rattle.lie_math.specs.FiniteSumLaws.{value-none, none_of_is, is_none_none}
 use Rattle.lie_math.specs.Counts.{Derivative}
@@ -32,34 +33,22 @@ use Rattle.lie_ring.proofs.Fronts.{all_taken, take_more}
 
 -- ---- some element of a list
 module _ {X : Type 0} (P : X → Type 0) where
-  any_later : (x : X) (xs : List X) → Any P xs → Any P (x ∷ xs)
-  any_later x xs a = (suc a.0, a.1, (let lt : a.0 < length xs = a.2 in omega arith), a.3, a.4)
-
   pub any_place : (xs : List X) (k : ℕ) (d : X) → k < length xs → P (slice_index_or xs k d) → Any P xs
   any_place [] k d g h = absurd (omega arith)
   any_place (x ∷ xs) zero d g h = (0, x, omega arith, refl, h)
-  any_place (x ∷ xs) (suc k) d g h = any_later x xs (any_place xs k d (omega arith) h)
+  any_place (x ∷ xs) (suc k) d g h = any_tail P x xs (any_place xs k d (omega arith) h)
 
   pub any_nothing : Any P [] → ⊥
   any_nothing a = let none : length {A = X} [] ≡ 0 = refl in let g : a.0 < length {A = X} [] = a.2 in omega arith
 
-  any_left : (xs ys : List X) (k : ℕ) (z : X) → k < length xs → slice_index_or xs k z ≡ z → P z → Any P (xs ++ ys)
-  any_left [] ys k z g e h = absurd (omega arith)
-  any_left (x ∷ xs) ys zero z g e h = (0, x, omega arith, refl, subst P (sym e) h)
-  any_left (x ∷ xs) ys (suc k) z g e h = any_later x (xs ++ ys) (any_left xs ys k z (omega arith) e h)
-
-  any_last : (xs : List X) (y : X) → P y → Any P (xs ++ y ∷ [])
-  any_last [] y h = (0, y, omega arith, refl, h)
-  any_last (x ∷ xs) y h = any_later x (xs ++ y ∷ []) (any_last xs y h)
-
   any_first : (xs : List X) (y : X) → Any P xs ⊎ P y → Any P (xs ++ y ∷ [])
-  any_first xs y s = elim s [ inl a ↦ any_left xs (y ∷ []) a.0 a.1 a.2 a.3 a.4 | inr h ↦ any_last xs y h ]
+  any_first xs y s = elim s [ inl a ↦ any_left P xs (y ∷ []) a | inr h ↦ any_right P xs (y ∷ []) (any_head P y [] h) ]
 
   any_before : (xs ys : List X) (k : ℕ) (z : X) (y : X) → ys ≡ y ∷ [] → k < length (xs ++ ys) → slice_index_or (xs ++ ys) k z ≡ z → P z → Any P xs ⊎ P y
   any_before [] ys zero z y q g e h = inr (subst P (sym (ap (λ zs. slice_index_or zs 0 z) (sym q) ∙ e)) h)
   any_before [] ys (suc k) z y q g e h = absurd (let n : length ys ≡ 1 = ap length q in omega arith)
   any_before (x ∷ xs) ys zero z y q g e h = inl (0, x, omega arith, refl, subst P (sym e) h)
-  any_before (x ∷ xs) ys (suc k) z y q g e h = elim (any_before xs ys k z y q (omega arith) e h) [ inl b ↦ inl (any_later x xs b) | inr h ↦ inr h ]
+  any_before (x ∷ xs) ys (suc k) z y q g e h = elim (any_before xs ys k z y q (omega arith) e h) [ inl b ↦ inl (any_tail P x xs b) | inr h ↦ inr h ]
 
   any_cases : (xs : List X) (y : X) → Any P (xs ++ y ∷ []) → Any P xs ⊎ P y
   any_cases xs y a = any_before xs (y ∷ []) a.0 a.1 y refl a.2 a.3 a.4
@@ -121,7 +110,7 @@ bucket_cases μ (b ∷ bs) = go (eq_by_cmp monomial_cmp μ b.mono) (bucket_cases
     go : (t : Bool) → (bucket_at μ bs ≡ []) ⊎ Any (λ (b : Bucket). triples_of b.triples.items ≡ bucket_at μ bs) bs
         → (cond t (triples_of b.triples.items) (bucket_at μ bs) ≡ []) ⊎ Any (λ (c : Bucket). triples_of c.triples.items ≡ cond t (triples_of b.triples.items) (bucket_at μ bs)) (b ∷ bs)
     go true s = inr (0, b, omega arith, refl, refl)
-    go false s = elim s [ inl e ↦ inl e | inr a ↦ inr (any_later (λ (c : Bucket). triples_of c.triples.items ≡ bucket_at μ bs) b bs a) ]
+    go false s = elim s [ inl e ↦ inl e | inr a ↦ inr (any_tail (λ (c : Bucket). triples_of c.triples.items ≡ bucket_at μ bs) b bs a) ]
 
 module _ (S : Space) (E : LinearForm) (bs : List Bucket) (are : AreBucketsOf (split_triples (is_in_z S) (triples E)) bs) where
   sum_of_bucket : (μ : Monomial) → sum_of_triples (bucket_at μ bs) ≡ part_of_form S E μ

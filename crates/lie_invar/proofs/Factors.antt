@@ -9,7 +9,7 @@ use Rattle.lie_math.proofs.ZeroDivisors.{no_zero_divisors}
 use Rattle.lie_ring.specs.Causes.{IsCause}
 use Rattle.lie_ring.specs.declared.failures.PolyFail.{PolyFail}
 use Rattle.lie_poly.proofs.SumSteps.{cause_covered}
-use Rattle.lie_solved.proofs.Variables.{every_back, every_front}
+use Rattle.lie_ring.proofs.Fronts.{every-front, every-back}
 use Rattle.lie_invar.proofs.Products.{IsProper, bounded_times, nonneg_times, proper_one, proper_times, cause_times}
 use Rattle.lie_invar.proofs.PowerSteps.{times_one}
 use Rattle.lie_ring.proofs.Fronts.{take_more}
@@ -22,10 +22,10 @@ parted_at (y ∷ xs) zero x lt is = ap (λ z. z ∷ xs) (sym is)
 parted_at (y ∷ xs) (suc i) x lt is = ap (λ ys. y ∷ ys) (parted_at xs i x (omega arith) is)
 
 pub every_rest : {X : Type 0} (Q : X → Type 0) (xs : List X) (i : ℕ) (x : X) → i < length xs → x ≡ get_or xs i x → Every Q xs → Q x × Every Q (drop (suc i) xs)
-every_rest Q xs i x lt is h = every_back Q (take i xs) (x ∷ drop (suc i) xs) (subst (Every Q) (parted_at xs i x lt is) h)
+every_rest Q xs i x lt is h = every-back Q (take i xs) (x ∷ drop (suc i) xs) (subst (Every Q) (parted_at xs i x lt is) h)
 
 pub every_before : {X : Type 0} (Q : X → Type 0) (xs : List X) (i : ℕ) (x : X) → i < length xs → x ≡ get_or xs i x → Every Q xs → Every Q (take i xs)
-every_before Q xs i x lt is h = every_front Q (take i xs) (x ∷ drop (suc i) xs) (subst (Every Q) (parted_at xs i x lt is) h)
+every_before Q xs i x lt is h = every-front Q (take i xs) (x ∷ drop (suc i) xs) (subst (Every Q) (parted_at xs i x lt is) h)
 
 pub read_same : {X : Type 0} (xs : List X) (i : ℕ) (c d : X) → i < length xs → get_or xs i c ≡ get_or xs i d
 read_same [] i c d lt = absurd (omega arith)

@@ -2,13 +2,14 @@
 use Rattle.std.specs.Prelude.{◌≡◌, ℕ, suc, ◌+◌, ◌<◌, ◌≤◌, Bool, true, false, List, [], ◌∷◌, ◌++◌, length, take, get_or, max, ltb, ◌-◌, ◌⊎◌, not, map, cond, ℤ, pos, negsuc}
 use Rattle.std.proofs.Common.{refl, sym, ap, ap₂, subst, ◌∙◌, arith, lt-ltb, ltb-true, inl, inr}
 use Rattle.std.specs.List.{AllByRecursion as Every}
+use Rattle.lie_solved.proofs.ReadyRules.{jet_low}
 use Rattle.lie_math.specs.Canonical.{sum_of_entries-append}
 use Rattle.lie_math.specs.Derivation.{is_below, bound}
 use borrow.Author.Differences.{ints}
-use Rattle.std.proofs.lemmas.List.{get_or-map, length-map, length-take-le}
+use Rattle.std.proofs.lemmas.List.{get_or-map, length-map}
 use Rattle.std.proofs.lemmas.List.{map-append}
 use Rattle.lie_math.specs.Counts.{order}
-use Rattle.lie_geometry.proofs.Numbers.{coordinate-number, count_rises}
+use Rattle.lie_geometry.proofs.Numbers.{count_rises}
 use Rattle.lie_geometry.proofs.NumberOrder.{order_below}
 use Rattle.lie_math.specs.Monomial.{Monomial, unit}
 use Rattle.lie_math.specs.Natural.{maxima}
@@ -29,9 +30,10 @@ use Rattle.lie_invar.specs.SolvedRule.{IsSolvedRule}
 use Rattle.lie_solved.proofs.RuleSteps.{lead_at}
 use Rattle.lie_invar.proofs.ApplicationSteps.{slope_at_lead}
 use Rattle.lie_solved.specs.Equations.{variables_in, variables_of}
-use Rattle.lie_solved.proofs.Variables.{every_in, every_front, every_back}
+use Rattle.lie_ring.proofs.Fronts.{every-front, every-back}
+use Rattle.lie_solved.proofs.Variables.{every_in}
 use Rattle.lie_invar.proofs.Factors.{read_same, every_rest}
-use Rattle.lie_gram.proofs.PrintedEquations.{twice_less}
+use Rattle.lie_math.proofs.Differences.{less_difference}
 use Rattle.lie_ring.proofs.Fronts.{take_more}
 
 abbrev pub pairs_bound : List (ℕ × ℕ) → ℕ
@@ -65,8 +67,8 @@ least_pairs n (p ∷ ps) h = let a : p.0 < n = ltb-true p.0 n h.0 in let b : pai
 least_terms : (n : ℕ) (ts : List (Monomial × ℤ)) → Every (λ w. is_below n w ≡ true) (variables_of ts) → terms_bound ts ≤ n
 least_terms n [] h = omega arith
 least_terms n (t ∷ ts) h =
-    let a : pairs_bound (t.0).list ≤ n = least_pairs n (t.0).list (every_front (λ w. is_below n w ≡ true) (variables_in (t.0).list) (variables_of ts) h) in
-    let b : terms_bound ts ≤ n = least_terms n ts (every_back (λ w. is_below n w ≡ true) (variables_in (t.0).list) (variables_of ts) h) in
+    let a : pairs_bound (t.0).list ≤ n = least_pairs n (t.0).list (every-front (λ w. is_below n w ≡ true) (variables_in (t.0).list) (variables_of ts) h) in
+    let b : terms_bound ts ≤ n = least_terms n ts (every-back (λ w. is_below n w ≡ true) (variables_in (t.0).list) (variables_of ts) h) in
     omega arith
 
 pub least_bound : (n : ℕ) (P : WholePolynomial) → IsIn (is_below n) P → bound P ≤ n
@@ -94,7 +96,7 @@ bound_difference r n free =
 
     right_below : IsIn (is_below (bound (difference r))) r.right
     right_below =
-        subst (IsIn (is_below (bound (difference r)))) (twice_less (constant r.factor *ᴾ variable r.lead) r.right)
+        subst (IsIn (is_below (bound (difference r)))) (less_difference (constant r.factor *ᴾ variable r.lead) r.right)
         (in-+ᴾ (is_below (bound (difference r))) (constant r.factor *ᴾ variable r.lead) (negᴾ (difference r))
         (in-*ᴾ (is_below (bound (difference r))) (constant r.factor) (variable r.lead) (in-constant _ r.factor) (in-variable _ r.lead (lt-ltb r.lead (bound (difference r)) (let k : suc r.lead ≤ bound (difference r) = lead_below (ltb r.lead (bound (difference r))) refl in omega arith))))
         (in-*ᴾ (is_below (bound (difference r))) (constant (negsuc 0)) (difference r) (in-constant _ (negsuc 0)) (in-bound (difference r))))
@@ -125,15 +127,8 @@ module _ (S : Space) where
     right = (every_rest (λ (r : LeadRule). IsIn (is_below (coordinates_up_to S 6)) r.right) rules i r lt is h.rights).0;
   }
 
-  low_lead : (r : LeadRule) → IsJet S 6 r.lead → number S (coordinate_of S r.lead) < coordinates_up_to S 6
-  low_lead r j =
-      let four = j.four in
-      let few = j.space.few_p in
-      (order_below S j.space.some_p j.space.some_q (number S (coordinate_of S r.lead)) 6).0
-      (subst (λ d. order_of d ≤ 6) (sym (coordinate-number S j.space.some_p j.space.some_q (coordinate_of S r.lead) (j.dependent, length-take-le S.p r.lead.counts (omega arith)))) j.low)
-
   pub low_variable : (r : LeadRule) (l w : ℕ) (ts : List (Monomial × ℤ)) → IsSolvedRule S r → l ≡ number S (coordinate_of S r.lead) → ts ≡ (r.right).list → suc w ≡ max (suc l) (terms_bound ts) → w < coordinates_up_to S 6
-  low_variable r l w ts h e t is = within w l (terms_bound ts) (coordinates_up_to S 6) is (subst (λ k. k < coordinates_up_to S 6) (sym e) (low_lead r h.jet)) (subst (λ us. terms_bound us ≤ coordinates_up_to S 6) (sym t) (least_bound (coordinates_up_to S 6) r.right h.right))
+  low_variable r l w ts h e t is = within w l (terms_bound ts) (coordinates_up_to S 6) is (subst (λ k. k < coordinates_up_to S 6) (sym e) (jet_low S r h.jet)) (subst (λ us. terms_bound us ≤ coordinates_up_to S 6) (sym t) (least_bound (coordinates_up_to S 6) r.right h.right))
     where
       within : (w l b n : ℕ) → suc w ≡ max (suc l) b → l < n → b ≤ n → w < n
       within w l b n e h k = omega arith

@@ -2,7 +2,7 @@
 use Rattle.std.specs.Prelude.{◌≡◌, ℕ, suc, ◌+◌, ◌<◌, ◌≤◌, max, Bool, true, false, List, [], ◌∷◌, ◌++◌, length, take, map, pos, unsigned_abs, IsTrue}
 use Rattle.std.specs.List.{AllByRecursion as Every}
 use Rattle.std.proofs.Common.{refl, sym, ap, ap₂, subst, ◌∙◌, arith, get_or, true≢false}
-use Rattle.std.proofs.lemmas.List.{map_push}
+use Rattle.std.proofs.lemmas.List.{map_push, length-map}
 use mathlib.Core.Path.{fun_ext}
 use Rattle.lie_math.specs.Counts.{Derivative}
 use Rattle.lie_math.specs.Limits.{absolute}
@@ -20,7 +20,7 @@ use Rattle.lie_jet.specs.Derivatives.{derivative_of, derivative_terms}
 use Rattle.lie_jet.specs.FormLimits.{IsFormCause, IsCoefficientCause}
 use Rattle.lie_jet.specs.declared.derivative.Der.{Der}
 use Rattle.lie_jet.proofs.Absolutes.{absolute_twice}
-use Rattle.lie_jet.proofs.DerivativeLists.{length_map, take_map}
+use Rattle.lie_jet.proofs.DerivativeLists.{take_map}
 use Rattle.lie_jet.proofs.FormBounds.{IsBound, at, IsFormBound, cause_bound, form_trans, form_plain, form_sum, form_one, over_entries, entries_bound, front_bound, sizes_of, list_sizes, sizes_bound}
 use Rattle.lie_jet.proofs.FormCauses.{coefficient_cause}
 use Rattle.lie_jet.proofs.FormSteps.{part_cause, put_cause, entries_step, over_sizes}
@@ -101,7 +101,7 @@ module _ (rs : List SolvedEquation) (e : ℕ → ℕ) (bounded : (a : WholePolyn
     terms_more G H k x h is g i = i ∙ ap (λ K. K +ᶠ reduced_term (derivative_of x.0) x.1) g ∙ sym (entries_step reduced_term ts k x h is)
 
     pub terms_end : (G : LinearForm) (k : ℕ) → length ts ≤ k → G ≡ over_entries reduced_term (take k (derivative_terms ts)) → G ≡ each_coefficient (reduced_by rs e) F
-    terms_end G k h g = g ∙ ap (over_entries reduced_term) (all_taken (derivative_terms ts) k (subst (λ n. n ≤ k) (sym (length_map (λ (t : Der × WholePolynomial). (derivative_of t.0, t.1)) ts)) h) ∙ all)
+    terms_end G k h g = g ∙ ap (over_entries reduced_term) (all_taken (derivative_terms ts) k (subst (λ n. n ≤ k) (sym (length-map ts (λ (t : Der × WholePolynomial). (derivative_of t.0, t.1)))) h) ∙ all)
 
     pub terms_cause : (fail : PolyFail) (G : LinearForm) (k : ℕ) (x : Der × WholePolynomial) → k < length ts → x ≡ get_or ts k x → G ≡ over_entries reduced_term (take k (derivative_terms ts))
         → IsCoefficientCause fail (each_coefficient absolute G +ᶠ bulk_term (derivative_of x.0) x.1) → IsCoefficientCause fail (each_coefficient (reduction_bulk_by rs e) F)

@@ -1,5 +1,5 @@
 -- The reduction of a term, and the sum of the reductions.
-use Rattle.std.specs.Prelude.{◌≡◌, ℕ, zero, suc, ◌+◌, ◌<◌, T, not, List, [], ◌∷◌, ◌++◌, length, take, get_or, ℤ, pos, ◌*ℤ◌, unsigned_abs, max, Result, Ok, Err, OnOk}
+use Rattle.std.specs.Prelude.{◌≡◌, ℕ, zero, suc, ◌+◌, ◌<◌, T, not, List, [], ◌∷◌, ◌++◌, length, take, get_or, ℤ, pos, ◌*ℤ◌, unsigned_abs, max}
 use Rattle.std.proofs.Common.{refl, sym, ap, ap₂, subst, subst₂, ◌∙◌, arith}
 use Rattle.std.proofs.lemmas.Int.{unsigned_abs-mul}
 use Rattle.std.specs.List.{Any, AllByRecursion as Every}
@@ -31,7 +31,7 @@ use Rattle.lie_prolong.proofs.Absolutes.{absolute-nonneg}
 use Rattle.lie_jet.proofs.TotalBounds.{term_bound}
 use Rattle.lie_solved.specs.declared.solved.LeadRule.{LeadRule}
 use Rattle.lie_solved.specs.SolvedForms.{solved_equations}
-use Rattle.lie_solved.proofs.Variables.{weaken}
+use Rattle.lie_ring.proofs.Fronts.{every-weaken}
 use Rattle.lie_invar.specs.Bulks.{absolute_equations, reduction_bulk_by, reduction_bulk}
 use Rattle.lie_invar.specs.Reductions.{greatest_exponent, IsReductionCause}
 use Rattle.lie_invar.specs.ReducedTerms.{power, replaced, reduced_term, IsKept}
@@ -115,7 +115,7 @@ module _ (rs : List SolvedEquation) (e : ℕ → ℕ) (m : Monomial) (a : ℤ) w
 
 pub multiple_apart : (S : Space) (rules : List LeadRule) (e : ℕ → ℕ) (m : Monomial) (a : ℤ) (number multiple : WholePolynomial) → ¬ (a ≡ pos 0) → Every (λ (r : LeadRule). ¬ (r.c ≡ pos 0)) rules → number ≡ constant a → multiple ≡ number *ᴾ constant (missing_powers (solved_equations S rules) e m) → ¬ (multiple ≡ 0ᴾ)
 multiple_apart S rules e m a number multiple n h f g z =
-    apart_product (missing_power S e m) rules (weaken (λ (r : LeadRule). ¬ (r.c ≡ pos 0)) (λ r. ¬ (missing_power S e m r ≡ 0ᴾ)) (λ r k. power_apart (constant r.c) (term_apart unit r.c k) _) rules h)
+    apart_product (missing_power S e m) rules (every-weaken (λ (r : LeadRule). ¬ (r.c ≡ pos 0)) (λ r. ¬ (missing_power S e m r ≡ 0ᴾ)) (λ r k. power_apart (constant r.c) (term_apart unit r.c k) _) rules h)
     (missing_is S e m rules ∙ no_zero_divisors (constant a) (constant (missing_powers (solved_equations S rules) e m)) (term_apart unit a n) (sym (g ∙ ap (λ x. x *ᴾ constant (missing_powers (solved_equations S rules) e m)) f) ∙ z))
 
 -- ---- sums over terms
@@ -169,10 +169,6 @@ module _ (rs : List SolvedEquation) (e : ℕ → ℕ) where
 
   pub term_cause : (fail : PolyFail) (p : WholePolynomial) (ts : List (Monomial × ℤ)) (i : ℕ) (t : Monomial × ℤ) → ts ≡ p.list → i < length ts → t ≡ get_or ts i t → IsCause fail (bulk_term t.0 t.1) → IsCause fail (reduction_bulk_by rs e p)
   term_cause fail p ts i t l lt is c = subst (IsCause fail) (ap (total bulk_term) l ∙ bulk_of p) (cause_covered fail (bulk_term t.0 t.1) (total bulk_term ts) (term_covered ts i t lt is) c)
-
-pub on_made : {V E A B : Type 0} (r : Result V E) → (A → B) → OnOk r A → OnOk r B
-on_made (Ok v) f h = f h
-on_made (Err e) f h = tt
 
 pub entry_apart : (p : WholePolynomial) (ts : List (Monomial × ℤ)) (i : ℕ) (t : Monomial × ℤ) → ts ≡ p.list → i < length ts → t ≡ get_or ts i t → ¬ (t.1 ≡ pos 0)
 entry_apart p ts i t l lt is = entry_not_zero ts i t (subst (IsCanonical terms) (sym l) p.canonical) lt is

@@ -1,6 +1,7 @@
 -- What leads are replaced by, and the powers of factors that a term lacks.
-use Rattle.std.specs.Prelude.{◌≡◌, ℕ, zero, suc, ◌+◌, ◌-◌, ◌<◌, ◌||◌, Bool, true, false, cond, eqb, List, [], ◌∷◌, length, take, get_or, ℤ, pos, ◌*ℤ◌, unsigned_abs, IsTrue, nat_eq}
-use Rattle.std.proofs.Common.{refl, sym, ap, ap₂, subst, ◌∙◌, arith, true≢false}
+use Rattle.std.specs.Prelude.{◌≡◌, ℕ, zero, suc, ◌+◌, ◌-◌, ◌<◌, Bool, true, false, cond, eqb, List, [], ◌∷◌, length, take, get_or, ℤ, pos, ◌*ℤ◌, unsigned_abs, IsTrue, nat_eq}
+use Rattle.std.proofs.Common.{refl, sym, ap, ap₂, subst, ◌∙◌, arith}
+use Rattle.std.proofs.lemmas.Bool.{eq-eqb, or_parts}
 use Rattle.std.proofs.lemmas.Bool.Decides.{nat_tests}
 use Rattle.std.proofs.lemmas.Int.{unsigned_abs-mul}
 use Rattle.std.specs.List.{AllByRecursion as Every}
@@ -25,7 +26,7 @@ use Rattle.lie_ring.specs.declared.failures.PolyFail.{PolyFail}
 use Rattle.lie_jet.specs.Jets.{coordinate_of}
 use Rattle.lie_solved.specs.declared.solved.LeadRule.{LeadRule}
 use Rattle.lie_solved.specs.SolvedForms.{solved_equations}
-use Rattle.lie_solved.proofs.Variables.{weaken}
+use Rattle.lie_ring.proofs.Fronts.{every-weaken}
 use Rattle.lie_invar.specs.Bulks.{absolute_equations}
 use Rattle.lie_invar.specs.ReducedTerms.{power, replaced, IsKept, exponents_at}
 use Rattle.lie_invar.proofs.Factors.{product, product_more, product_cause, apart_product, every_before, read_same}
@@ -36,24 +37,13 @@ use Rattle.lie_jet.proofs.TotalBounds.{absolute_variable}
 
 -- ---- the rule of a lead
 module _ (S : Space) where
-  left_false : (a b : Bool) → (a || b) ≡ false → a ≡ false
-  left_false true b e = e
-  left_false false b e = refl
-
-  right_false : (a b : Bool) → (a || b) ≡ false → b ≡ false
-  right_false true b e = absurd (true≢false e)
-  right_false false b e = e
-
-  eqb_itself : (a : ℕ) → eqb a a ≡ true
-  eqb_itself a = grind (arith, nat_tests)
-
   pub first_lead : (rules : List LeadRule) (i w : ℕ) (r d : LeadRule) → is_lead (solved_equations S (take i rules)) w ≡ false → i < length rules → r ≡ get_or rules i r → number S (coordinate_of S r.lead) ≡ w → replacement (solved_equations S rules) w ≡ (get_or rules i d).right
   first_lead [] i w r d h lt is n = absurd (omega arith)
   first_lead (x ∷ rules) zero w r d h lt is n =
-      ap (λ t. cond t x.right (replacement (solved_equations S rules) w)) (ap (λ v. eqb w v) (ap (λ (y : LeadRule). number S (coordinate_of S y.lead)) (sym is) ∙ n) ∙ eqb_itself w)
+      ap (λ t. cond t x.right (replacement (solved_equations S rules) w)) (ap (λ v. eqb w v) (ap (λ (y : LeadRule). number S (coordinate_of S y.lead)) (sym is) ∙ n) ∙ eq-eqb w w refl)
   first_lead (x ∷ rules) (suc i) w r d h lt is n =
-      ap (λ t. cond t x.right (replacement (solved_equations S rules) w)) (left_false (eqb w (number S (coordinate_of S x.lead))) (is_lead (solved_equations S (take i rules)) w) h)
-      ∙ first_lead rules i w r d (right_false (eqb w (number S (coordinate_of S x.lead))) (is_lead (solved_equations S (take i rules)) w) h) (omega arith) is n
+      ap (λ t. cond t x.right (replacement (solved_equations S rules) w)) (or_parts (eqb w (number S (coordinate_of S x.lead))) (is_lead (solved_equations S (take i rules)) w) h).0
+      ∙ first_lead rules i w r d (or_parts (eqb w (number S (coordinate_of S x.lead))) (is_lead (solved_equations S (take i rules)) w) h).1 (omega arith) is n
 
 -- ---- polynomials that are 0
 no_terms : (es : List (Monomial × ℤ)) → length es ≡ 0 → es ≡ (0ᴾ).list
@@ -130,7 +120,7 @@ module _ (rs : List SolvedEquation) where
   replaced_bounded p = bounded_power (replacement rs p.0) (absolute (replacement rs p.0)) (absolute_bound (replacement rs p.0)) p.1
 
   pub kept_proper : (ps : List (ℕ × ℕ)) → Every (IsKept rs) ps → Every (λ p. IsProper (replaced_bulk p)) ps
-  kept_proper ps h = weaken (IsKept rs) (λ p. IsProper (replaced_bulk p)) (λ p n. proper_power (absolute (replacement rs p.0)) (absolute_proper (replacement rs p.0) n) p.1) ps h
+  kept_proper ps h = every-weaken (IsKept rs) (λ p. IsProper (replaced_bulk p)) (λ p n. proper_power (absolute (replacement rs p.0)) (absolute_proper (replacement rs p.0) n) p.1) ps h
 
 -- ---- the powers of the factors that a monomial lacks
 module _ (S : Space) (e : ℕ → ℕ) (m : Monomial) where
@@ -159,7 +149,7 @@ module _ (S : Space) (e : ℕ → ℕ) (m : Monomial) where
   missing_bounded r = bounded_power (constant r.c) (absolute (constant r.c)) (absolute_bound (constant r.c)) (e (lead_number r) - exponent m (lead_number r))
 
   pub factors_proper : (rules : List LeadRule) → Every (λ (r : LeadRule). ¬ (r.c ≡ pos 0)) rules → Every (λ r. IsProper (missing_bulk r)) rules
-  factors_proper rules h = weaken (λ (r : LeadRule). ¬ (r.c ≡ pos 0)) (λ r. IsProper (missing_bulk r)) (λ r n. proper_power (absolute (constant r.c)) (absolute_proper (constant r.c) (term_apart unit r.c n)) (e (lead_number r) - exponent m (lead_number r))) rules h
+  factors_proper rules h = every-weaken (λ (r : LeadRule). ¬ (r.c ≡ pos 0)) (λ r. IsProper (missing_bulk r)) (λ r n. proper_power (absolute (constant r.c)) (absolute_proper (constant r.c) (term_apart unit r.c n)) (e (lead_number r) - exponent m (lead_number r))) rules h
 
   pub exponent_at : (rules : List LeadRule) (es : List ℕ) (i : ℕ) (r : LeadRule) (d : ℕ) → es ≡ exponents_at S rules e → i < length rules → r ≡ get_or rules i r → get_or es i d ≡ e (lead_number r)
   exponent_at rules es i r d h lt is = ap (λ xs. get_or xs i d) h ∙ go rules i lt is
@@ -188,7 +178,7 @@ power_apart p h zero = one_apart
 power_apart p h (suc n) = λ e. power_apart p h n (no_zero_divisors p (power p n) h e)
 
 pub kept_apart : (rs : List SolvedEquation) (ps : List (ℕ × ℕ)) → Every (IsKept rs) ps → Every (λ p. ¬ (replaced_power rs p ≡ 0ᴾ)) ps
-kept_apart rs ps h = weaken (IsKept rs) (λ p. ¬ (replaced_power rs p ≡ 0ᴾ)) (λ p n. power_apart (replacement rs p.0) n p.1) ps h
+kept_apart rs ps h = every-weaken (IsKept rs) (λ p. ¬ (replaced_power rs p ≡ 0ᴾ)) (λ p n. power_apart (replacement rs p.0) n p.1) ps h
 
 pub now_apart : (rs : List SolvedEquation) (ps : List (ℕ × ℕ)) (i : ℕ) (d : ℕ × ℕ) (start now : WholePolynomial) → i < length ps → Every (IsKept rs) ps → ¬ (start ≡ 0ᴾ) → now ≡ start *ᴾ product (replaced_power rs) (take i ps) → ¬ (now ≡ 0ᴾ)
 now_apart rs ps i d start now lt h n e z =

@@ -3,6 +3,7 @@ use Rattle.std.specs.Prelude.{◌≡◌, ℕ, ◌-◌, ◌⊎◌, Bool, true, fa
 use Rattle.std.proofs.Common.{refl, sym, ap, subst, ◌∙◌, arith, inl, inr}
 use Rattle.std.specs.List.{AllByRecursion as Every}
 use Rattle.std.specs.Ordering.{eq_by_cmp}
+use Rattle.lie_ring.proofs.Fronts.{every-append}
 use Rattle.lie_math.specs.FiniteSumLaws.{value-term, plus_comm, plus_idl}
 use Rattle.lie_math.specs.Counts.{Derivative, derivative_cmp}
 use Rattle.lie_math.specs.LinearForm.{forms, LinearForm, no_form}
@@ -86,10 +87,6 @@ module _ (P : Derivative → Type 0) (A : ℕ → Bool) where
     subst (IsIn A) (sym (value-sum e.0 us) ∙ is) (coefficient_in A e.0 us (seconds us h)),
   ))
 
-  every_append : (xs ys : List Triple) → Every IsTripleIn xs → Every IsTripleIn ys → Every IsTripleIn (xs ++ ys)
-  every_append [] ys h k = k
-  every_append (x ∷ xs) ys h k = (h.0, every_append xs ys h.1 k)
-
   pub triples_are_in : (E : LinearForm) → IsFormIn E → Every IsTripleIn (triples E)
   triples_are_in E h = go E.list h
     where
@@ -99,7 +96,7 @@ module _ (P : Derivative → Type 0) (A : ℕ → Bool) where
 
       go : (es : List (Derivative × WholePolynomial)) → Every (λ (e : Derivative × WholePolynomial). P e.0 × IsIn A e.1) es → Every IsTripleIn (triples_in es)
       go [] k = tt
-      go (e ∷ es) k = every_append (triples_with e.0 e.1.list) (triples_in es) (one e.0 e.1.list k.0.0 (monomials_in A e.0 e.1 k.0.1)) (go es k.1)
+      go (e ∷ es) k = every-append IsTripleIn (triples_with e.0 e.1.list) (triples_in es) (one e.0 e.1.list k.0.0 (monomials_in A e.0 e.1 k.0.1)) (go es k.1)
 
   divided_in : (s : ℤ) (g : ℕ) (m : Monomial) (us : List Triple) → Every IsTripleIn us → Every IsTripleIn (map (divided s g m) us)
   divided_in s g m [] h = tt

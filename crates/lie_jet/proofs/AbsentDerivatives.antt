@@ -1,7 +1,9 @@
 -- A derivative that does not stand in a list has the coefficient 0 there.
-use Rattle.std.specs.Prelude.{◌≡◌, ℕ, zero, suc, ◌≤◌, false, cond, List, [], ◌∷◌, ◌++◌, length, take, drop, pos}
-use Rattle.std.proofs.Common.{refl, sym, ap, subst, ◌∙◌, arith, Ordering, Less, Equal, Greater}
+use Rattle.std.specs.Prelude.{◌≡◌, ℕ, ◌≤◌, false, cond, List, [], ◌∷◌, ◌++◌, length, take, drop, pos}
+use Rattle.std.proofs.Common.{refl, sym, ap, subst, ◌∙◌, Ordering, Less, Equal, Greater}
 use Rattle.std.specs.FinMap.Entries.{by_order}
+use Rattle.std.proofs.Math.Seq.{drop-append_seam}
+use Rattle.std.proofs.lemmas.List.{length-take-le}
 use Rattle.lie_math.specs.Canonical.{canonical-add_at}
 use Rattle.lie_math.specs.Counts.{Derivative, derivative_cmp}
 use Rattle.lie_math.specs.FiniteSum as finite
@@ -32,12 +34,6 @@ some_one : finite.is_none terms (constant (pos 1)) ≡ false
 unfolding finite.term finite.of
 some_one = refl
 
-cut_behind : {Y : Type 0} (ys zs : List Y) (i : ℕ) → i ≤ length ys → drop i (take i ys ++ zs) ≡ zs
-cut_behind [] zs zero h = refl
-cut_behind [] zs (suc i) h = absurd (omega arith)
-cut_behind (y ∷ ys) zs zero h = refl
-cut_behind (y ∷ ys) zs (suc i) h = cut_behind ys zs i (omega arith)
-
 -- where a derivative would be put before the others from a place on, the list has no coefficient for it
 pub no_coefficient : (d : Derivative) (es : List (Derivative × WholePolynomial)) (i : ℕ) → IsCanonical forms es → i ≤ length es → ((a : WholePolynomial) → GoesTo d a es i) → GoesNoFurther d (drop i es) → ¬ (IsFirst d (drop i es)) → finite.value forms (finite.of forms es) d ≡ 0ᴾ
 no_coefficient d es i canonical inside to stop apart = plus_cancel polynomial_ring (finite.value forms (finite.of forms es) d) 0ᴾ one (plus_comm terms one (finite.value forms (finite.of forms es) d) ∙ sym sum ∙ found ∙ sym (plus_idr polynomial_ring one))
@@ -51,8 +47,11 @@ no_coefficient d es i canonical inside to stop apart = plus_cancel polynomial_ri
     put : new ≡ take i es ++ (d, one) ∷ drop i es
     put = to one ∙ ap (λ l. take i es ++ l) (before_first d one (drop i es) stop apart ∙ ap (λ b. cond b (drop i es) ((d, one) ∷ drop i es)) some_one)
 
+    behind : drop i (take i es ++ (d, one) ∷ drop i es) ≡ (d, one) ∷ drop i es
+    behind = subst (λ n. drop n (take i es ++ (d, one) ∷ drop i es) ≡ (d, one) ∷ drop i es) (length-take-le i es inside) (drop-append_seam (take i es) ((d, one) ∷ drop i es))
+
     found : finite.value forms (finite.of forms new) d ≡ one
-    found = value-of forms new d ∙ value_at_cut new (drop i es) i (d, one) (canonical-add_at derivative_cmp forms.values forms.total forms.same d one es canonical) (ap (drop i) put ∙ cut_behind es ((d, one) ∷ drop i es) i inside)
+    found = value-of forms new d ∙ value_at_cut new (drop i es) i (d, one) (canonical-add_at derivative_cmp forms.values forms.total forms.same d one es canonical) (ap (drop i) put ∙ behind)
 
     sum : finite.value forms (finite.of forms new) d ≡ finite.value forms (finite.of forms es) d +ᴾ one
     sum =

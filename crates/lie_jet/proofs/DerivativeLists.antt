@@ -6,7 +6,7 @@ use Rattle.std.specs.Ordering.{nat_cmp, ordering_then}
 use Rattle.std.specs.Cmp.Lexicographic.{slice_cmp}
 use Rattle.std.specs.FinMap.Entries.{by_order}
 use Rattle.std.proofs.Math.ListN.{set}
-use Rattle.std.proofs.lemmas.List.{take_more, drop_more}
+use Rattle.std.proofs.lemmas.List.{take_more, drop_more, length-map}
 use Rattle.lie_math.specs.Counts.{order, raise, trimmed, Derivative, derivative_cmp, raised}
 use Rattle.lie_math.specs.LinearForm.{forms, ◌+ᶠ◌, form_term}
 use Rattle.lie_math.specs.FiniteSum as finite
@@ -42,20 +42,11 @@ module _ {X Y : Type 0} (f : X → Y) where
   get_map (y ∷ ys) zero x e = ap f e
   get_map (y ∷ ys) (suc i) x e = get_map ys i x e
 
-  pub length_map : (xs : List X) → length (map f xs) ≡ length xs
-  length_map [] = refl
-  length_map (x ∷ xs) = ap suc (length_map xs)
-
   pub cut_map : (xs : List X) (i : ℕ) (x : X) → i < length xs → x ≡ get_or xs i x → drop i (map f xs) ≡ f x ∷ drop (i + 1) (map f xs)
-  cut_map xs i x h e = drop_more (map f xs) i (f x) (omega (arith, length_map xs)) ∙ ap (λ z. z ∷ drop (i + 1) (map f xs)) (sym (get_map xs i x e))
+  cut_map xs i x h e = drop_more (map f xs) i (f x) (omega (arith, length-map xs f)) ∙ ap (λ z. z ∷ drop (i + 1) (map f xs)) (sym (get_map xs i x e))
 
   pub take_map : (xs : List X) (i : ℕ) (x : X) → i < length xs → x ≡ get_or xs i x → take (i + 1) (map f xs) ≡ take i (map f xs) ++ f x ∷ []
-  take_map xs i x h e = take_more (map f xs) i (f x) (omega (arith, length_map xs)) ∙ ap (λ z. take i (map f xs) ++ z ∷ []) (sym (get_map xs i x e))
-
-  pub set_map : (xs : List X) (i : ℕ) (x : X) → map f (set xs i x) ≡ set (map f xs) i (f x)
-  set_map [] i x = refl
-  set_map (y ∷ ys) zero x = refl
-  set_map (y ∷ ys) (suc i) x = ap (λ l. f y ∷ l) (set_map ys i x)
+  take_map xs i x h e = take_more (map f xs) i (f x) (omega (arith, length-map xs f)) ∙ ap (λ z. take i (map f xs) ++ z ∷ []) (sym (get_map xs i x e))
 
   pub insert_map : (xs : List X) (i : ℕ) (x : X) → map f (take i xs ++ x ∷ drop i xs) ≡ take i (map f xs) ++ f x ∷ drop i (map f xs)
   insert_map [] zero x = refl

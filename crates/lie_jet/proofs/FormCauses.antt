@@ -1,6 +1,6 @@
 -- What is past a limit in one coefficient is past it in the form, and a form is within the limits where its coefficients are and its triples are few.
-use Rattle.std.specs.Prelude.{◌≡◌, ℕ, zero, suc, ◌<◌, ◌≤◌, ◌^◌, Bool, true, false, cond, List, [], ◌∷◌, ◌++◌, length, ℤ, pos, unsigned_abs, ◌+ℤ◌}
-use Rattle.std.specs.List.{AllByRecursion as Every, Any, slice_index_or}
+use Rattle.std.specs.Prelude.{◌≡◌, ℕ, suc, ◌<◌, ◌≤◌, ◌^◌, Bool, true, false, cond, List, [], ◌∷◌, ◌++◌, length, ℤ, pos, unsigned_abs, ◌+ℤ◌}
+use Rattle.std.specs.List.{AllByRecursion as Every, Any}
 use Rattle.std.specs.Ordering.{eq_by_cmp}
 use Rattle.std.proofs.Common.{refl, sym, ap, subst, ◌∙◌, arith, length-append, append_assoc}
 use Rattle.std.proofs.lemmas.List.Elements.{All-from_recursion}
@@ -14,6 +14,7 @@ use Rattle.lie_math.specs.Monomial.{Monomial, monomial_cmp, exponent}
 use Rattle.lie_math.specs.MonomialOrder.{monomial_cmp_total, monomial_cmp-IsAntisymmetric}
 use Rattle.lie_math.specs.Polynomial.{WholePolynomial, terms, coefficient, 0ᴾ}
 use Rattle.lie_math.specs.SortedSum.{value_at}
+use Rattle.lie_math.proofs.SomeElement.{any_head, any_tail, any_left, any_right}
 use Rattle.lie_math.proofs.FiniteSum.{key, entries_of}
 use Rattle.lie_math.specs.FiniteSum.{IsCanonical}
 use Rattle.lie_math.proofs.CanonicalLists.{canonical_below, canonical_tail}
@@ -22,28 +23,9 @@ use Rattle.lie_systems.specs.Bulk as bulks
 use Rattle.lie_ring.specs.declared.failures.PastKind.TheVariants.{Coefficient, Exponent, Terms, Order, Unknowns, Width}
 use Rattle.lie_ring.specs.declared.failures.PolyFail.{PolyFail}
 use Rattle.lie_ring.specs.declared.failures.PolyFail.TheVariants.{Past, NoMemory}
+use Rattle.lie_ring.proofs.Fronts.{every-append}
 use Rattle.lie_jet.specs.FormLimits.{IsFormCause, IsCoefficientCause}
 use Rattle.lie_jet.proofs.FormBounds.{at}
-
--- ---- some element of a list
-module _ {X : Type 0} (P : X → Type 0) where
-  any_first : (x : X) (xs : List X) → P x → Any P (x ∷ xs)
-  any_first x xs h = (0, x, omega arith, refl, h)
-
-  any_later : (x : X) (xs : List X) → Any P xs → Any P (x ∷ xs)
-  any_later x xs a = (suc a.0, a.1, (let lt : a.0 < length xs = a.2 in omega arith), a.3, a.4)
-
-  any_right : (xs ys : List X) → Any P ys → Any P (xs ++ ys)
-  any_right [] ys a = a
-  any_right (x ∷ xs) ys a = any_later x (xs ++ ys) (any_right xs ys a)
-
-  any_left : (xs ys : List X) → Any P xs → Any P (xs ++ ys)
-  any_left xs ys a = go xs a.0 a.1 a.2 a.3 a.4
-    where
-      go : (xs : List X) (k : ℕ) (x : X) → k < length xs → slice_index_or xs k x ≡ x → P x → Any P (xs ++ ys)
-      go [] k x lt is h = absurd (omega arith)
-      go (y ∷ xs) zero x lt is h = any_first y (xs ++ ys) (subst P (sym is) h)
-      go (y ∷ xs) (suc k) x lt is h = any_later y (xs ++ ys) (go xs k x (omega arith) is h)
 
 -- ---- a coefficient that is not 0 is that of a triple
 triple_at : (P : Triple → Type 0) (d : Derivative) (m : Monomial) (es : List (Monomial × ℤ)) → IsCanonical terms es → ¬ (value_at monomial_cmp coefficients m es ≡ pos 0) → P (d, m, value_at monomial_cmp coefficients m es) → Any P (triples_with d es)
@@ -54,10 +36,10 @@ triple_at P d m (e ∷ es) c n h = go (eq_by_cmp monomial_cmp m e.0) refl (tripl
     go true f rest =
         let s : m ≡ e.0 = key terms m e.0 f in
         let v : value_at monomial_cmp coefficients m (e ∷ es) ≡ e.1 = ap (λ k. value_at monomial_cmp coefficients k (e ∷ es)) s ∙ value_at-head monomial_cmp coefficients monomial_cmp_total monomial_cmp-IsAntisymmetric e es (canonical_below terms e es c) in
-        any_first P (d, e.0, e.1) (triples_with d es) (subst (λ (x : Monomial × ℤ). P (d, x.0, x.1)) (λ i. (s i, v i)) h)
+        any_head P (d, e.0, e.1) (triples_with d es) (subst (λ (x : Monomial × ℤ). P (d, x.0, x.1)) (λ i. (s i, v i)) h)
     go false f rest =
         let v : value_at monomial_cmp coefficients m (e ∷ es) ≡ value_at monomial_cmp coefficients m es = ap (λ b. cond b e.1 (pos 0) +ℤ value_at monomial_cmp coefficients m es) f ∙ lib.IntN.+ℤ_idl _ in
-        any_later P (d, e.0, e.1) (triples_with d es) (rest (λ z. n (v ∙ z)) (subst (λ x. P (d, m, x)) v h))
+        any_tail P (d, e.0, e.1) (triples_with d es) (rest (λ z. n (v ∙ z)) (subst (λ x. P (d, m, x)) v h))
 
 -- ---- the triples of one derivative stand together
 none_listed : (0ᴾ).list ≡ []
@@ -114,23 +96,19 @@ coefficient_cause (Past Width) E c = absurd c.1
 coefficient_cause NoMemory E c = tt
 
 -- ---- within the limits
-abbrev IsLow : Triple → Type 0
+abbrev pub IsLow : Triple → Type 0
 IsLow t = FitsNumber t.2 × HasLowExponents t.1
-
-pub every_append : {X : Type 0} (P : X → Type 0) (xs ys : List X) → Every P xs → Every P ys → Every P (xs ++ ys)
-every_append P [] ys h k = k
-every_append P (x ∷ xs) ys h k = (h.0, every_append P xs ys h.1 k)
 
 low_with : (d : Derivative) (es : List (Monomial × ℤ)) → Every (λ (e : Monomial × ℤ). FitsNumber e.1 × HasLowExponents e.0) es → Every IsLow (triples_with d es)
 low_with d [] h = tt
 low_with d (e ∷ es) h = (h.0, low_with d es h.1)
 
-low_part : (d : Derivative) (p : WholePolynomial) → IsWithinLimits p → Every IsLow (triples_with d p.list)
+pub low_part : (d : Derivative) (p : WholePolynomial) → IsWithinLimits p → Every IsLow (triples_with d p.list)
 low_part d p w = low_with d p.list (entries_of terms p (λ e. FitsNumber e.1 × HasLowExponents e.0) (λ e is apart. (subst FitsNumber is (w.coefficients e.0), w.exponents e.0 (λ z. apart (sym is ∙ z)))))
 
 low_all : (es : List (Derivative × WholePolynomial)) → Every (λ (e : Derivative × WholePolynomial). IsWithinLimits e.1) es → Every IsLow (triples_in es)
 low_all [] h = tt
-low_all (e ∷ es) h = every_append IsLow (triples_with e.0 e.1.list) (triples_in es) (low_part e.0 e.1 h.0) (low_all es h.1)
+low_all (e ∷ es) h = every-append IsLow (triples_with e.0 e.1.list) (triples_in es) (low_part e.0 e.1 h.0) (low_all es h.1)
 
 firsts : (us : List Triple) → Every IsLow us → Every (λ (t : Triple). FitsNumber t.2) us
 firsts [] h = tt
@@ -140,9 +118,12 @@ seconds : (us : List Triple) → Every IsLow us → Every (λ (t : Triple). HasL
 seconds [] h = tt
 seconds (u ∷ us) h = ((h.0).1, seconds us h.1)
 
-pub within_limits : (E : LinearForm) → Every (λ (e : Derivative × WholePolynomial). IsWithinLimits e.1) E.list → length (triples E) ≤ 1000000 → bulks.IsWithinLimits E
-within_limits E h few = record {
-  numbers = All-from_recursion (λ (t : Triple). FitsNumber t.2) (triples E) (firsts (triples E) (low_all E.list h));
-  exponents = All-from_recursion (λ (t : Triple). HasLowExponents t.1) (triples E) (seconds (triples E) (low_all E.list h));
+pub within_of_low : (E : LinearForm) → Every IsLow (triples E) → length (triples E) ≤ 1000000 → bulks.IsWithinLimits E
+within_of_low E low few = record {
+  numbers = All-from_recursion (λ (t : Triple). FitsNumber t.2) (triples E) (firsts (triples E) low);
+  exponents = All-from_recursion (λ (t : Triple). HasLowExponents t.1) (triples E) (seconds (triples E) low);
   few = few;
 }
+
+pub within_limits : (E : LinearForm) → Every (λ (e : Derivative × WholePolynomial). IsWithinLimits e.1) E.list → length (triples E) ≤ 1000000 → bulks.IsWithinLimits E
+within_limits E h few = within_of_low E (low_all E.list h) few

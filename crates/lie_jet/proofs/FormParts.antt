@@ -15,7 +15,8 @@ use Rattle.lie_jet.specs.Derivatives.{derivative_of, derivative_terms}
 use Rattle.lie_jet.specs.declared.derivative.Der.{Der}
 use Rattle.lie_jet.proofs.DerivativeLists.{take_map}
 use Rattle.lie_jet.proofs.FormBounds.{sizes_of, canonical_sizes, sizes_form}
-use Rattle.lie_jet.proofs.FormCauses.{length-with, every_append, within_limits}
+use Rattle.lie_ring.proofs.Fronts.{every-append}
+use Rattle.lie_jet.proofs.FormCauses.{length-with, within_limits}
 
 -- ---- absolute values
 abbrev pub kept_sizes : List (Der × WholePolynomial) → List (Der × WholePolynomial)
@@ -48,7 +49,7 @@ module _ (ts : List (Der × WholePolynomial)) (k : ℕ) (x : Der × WholePolynom
       let d = length-with (derivative_of x.0) x.1.list in omega arith
 
   pub within_step : Every (λ (y : Derivative × WholePolynomial). IsWithinLimits y.1) (take k (derivative_terms ts)) → IsWithinLimits x.1 → Every (λ (y : Derivative × WholePolynomial). IsWithinLimits y.1) (take (k + 1) (derivative_terms ts))
-  within_step rest w = subst (Every (λ (y : Derivative × WholePolynomial). IsWithinLimits y.1)) (sym one_more) (every_append (λ (y : Derivative × WholePolynomial). IsWithinLimits y.1) (take k (derivative_terms ts)) ((derivative_of x.0, x.1) ∷ []) rest (w, tt))
+  within_step rest w = subst (Every (λ (y : Derivative × WholePolynomial). IsWithinLimits y.1)) (sym one_more) (every-append (λ (y : Derivative × WholePolynomial). IsWithinLimits y.1) (take k (derivative_terms ts)) ((derivative_of x.0, x.1) ∷ []) rest (w, tt))
 
 module _ (E : LinearForm) (es : List (Derivative × WholePolynomial)) (canonical : IsCanonical forms es) (is : finite.of forms es ≡ E) where
   listed : E.list ≡ es

@@ -2,6 +2,8 @@
 use Rattle.std.specs.Prelude.{◌≡◌, ℕ, zero, suc, ◌+◌, ◌<◌, ◌≤◌, Bool, true, false, List, [], ◌∷◌, length, take, slice_index, replicate, ltb, pos, unsigned_abs}
 use Rattle.std.specs.List.{AllByRecursion as Every}
 use Rattle.std.specs.Cmp.{tied_itself}
+use Rattle.std.proofs.lemmas.List.{length-map}
+use Rattle.std.proofs.lemmas.List.Elements.{All-from_recursion}
 use Rattle.std.proofs.Common.{refl, sym, ap, ap₂, subst, subst₂, ◌∙◌, arith, get_or, cond, is_eq, ltb-true, ltb-false}
 use mathlib.Core.Path.{fun_ext}
 use Rattle.lie_math.specs.Canonical.{sum_of_entries-append, idr}
@@ -29,10 +31,9 @@ use Rattle.lie_jet.specs.FormLimits.{IsCoefficientCause, HasJetsUpTo, HasOrdersU
 use Rattle.lie_jet.specs.FormTotals.{dependent_term, derived_term, total_of_term}
 use Rattle.lie_jet.specs.Jets.{IsSmall}
 use Rattle.lie_jet.specs.declared.derivative.Der.{Der}
-use Rattle.lie_jet.proofs.DerivativeLists.{take_map, length_map, get_map}
+use Rattle.lie_jet.proofs.DerivativeLists.{take_map, get_map}
 use Rattle.lie_jet.proofs.FormBounds.{coefficient_absolute, absolute_none, IsBound, sum_bound, plain_bound, covered_absolute, absolute_bound, at, IsFormBound, IsPlain, cause_bound, form_trans, form_plain, form_sum, form_one, form_first, form_second, over_bound, fewer_bound, over_entries, entries_bound, front_bound, sizes_of, list_sizes, at_sizes, sizes_twice, form_sizes, sizes_bound}
 use Rattle.lie_jet.proofs.TotalBounds.{absolute_variable, total_bound, dependent_bound, derived_bound, term_total_bound}
-use Rattle.lie_jet.proofs.TotalParts.{every_at}
 
 -- ---- counts
 index_order : (i : ℕ) (xs : List ℕ) → slice_index xs i ≤ order xs
@@ -190,7 +191,7 @@ module _ (S : Space) (m n : ℕ) (E : LinearForm) (jets : HasJetsUpTo S m E) (or
   pub entry_low : (ts : List (Der × WholePolynomial)) (k : ℕ) (x : Der × WholePolynomial) → k < length ts → x ≡ get_or ts k x → derivative_terms ts ≡ E.list → IsLow (derivative_of x.0, x.1)
   entry_low ts k x h e all =
       subst IsLow (sym (get_map (λ (t : Der × WholePolynomial). (derivative_of t.0, t.1)) ts k x e))
-      (every_at IsLow (derivative_terms ts) k (derivative_of x.0, x.1) (subst (Every IsLow) (sym all) low_entries) (subst (λ n. k < n) (sym (length_map (λ (t : Der × WholePolynomial). (derivative_of t.0, t.1)) ts)) h))
+      (All-from_recursion IsLow (derivative_terms ts) (subst (Every IsLow) (sym all) low_entries) k (derivative_of x.0, x.1) (subst (λ n. k < n) (sym (length-map ts (λ (t : Der × WholePolynomial). (derivative_of t.0, t.1)))) h))
 
 -- ---- the total derivative of a form is bounded
 pub form_total_bound : (S : Space) (small : IsSmall S) (i : ℕ) (inside : i < S.p) (E : LinearForm) → IsFormBound (symbolic_total S i E) (symbolic_total S i (each_coefficient absolute E))

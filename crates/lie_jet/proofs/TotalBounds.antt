@@ -73,14 +73,14 @@ module _ (S : Space) (small : IsSmall S) (i : ℕ) (inside : i < S.p) where
           (sym (product f (pos (unsigned_abs c) *ℤ pos e) ∙ ap (term (f · lower w m)) (*ℤ-idl (pos (unsigned_abs c) *ℤ pos e) ∙ sym (size_times c e))))
           (term_bound (f · lower w m) (c *ℤ pos e)))
 
-  of_term : (m : Monomial) (c : ℤ) → IsBound (total_derivative S i (term m c)) (total_derivative S i (term m (pos (unsigned_abs c))))
-  of_term m c = subst₂ IsBound (sym (total_term S i m c)) (sym (total_term S i m (pos (unsigned_abs c)))) (entries_bound (part (slope S small i inside) m c) (part (slope S small i inside) m (pos (unsigned_abs c))) (part_bound m c) m.list)
+  pub total_bound_of_term : (m : Monomial) (c : ℤ) → IsBound (total_derivative S i (term m c)) (total_derivative S i (term m (pos (unsigned_abs c))))
+  total_bound_of_term m c = subst₂ IsBound (sym (total_term S i m c)) (sym (total_term S i m (pos (unsigned_abs c)))) (entries_bound (part (slope S small i inside) m c) (part (slope S small i inside) m (pos (unsigned_abs c))) (part_bound m c) m.list)
 
   of_terms : (es : List (Monomial × ℤ)) → IsBound (total_derivative S i (polynomial_of es)) (total_derivative S i (polynomial_of (absolutes es)))
   of_terms [] = let e = ap (total_derivative S i) polynomial_of-none ∙ derived-0ᴾ (total_is_derivation S i) in subst₂ IsBound (sym e) (sym e) none_bound
   of_terms (e ∷ es) =
       subst₂ IsBound (sym (more e.0 e.1 es)) (sym (more e.0 (pos (unsigned_abs e.1)) (absolutes es)))
-      (sum_bound (total_derivative S i (term e.0 e.1)) (total_derivative S i (polynomial_of es)) (total_derivative S i (term e.0 (pos (unsigned_abs e.1)))) (total_derivative S i (polynomial_of (absolutes es))) (of_term e.0 e.1) (of_terms es))
+      (sum_bound (total_derivative S i (term e.0 e.1)) (total_derivative S i (polynomial_of es)) (total_derivative S i (term e.0 (pos (unsigned_abs e.1)))) (total_derivative S i (polynomial_of (absolutes es))) (total_bound_of_term e.0 e.1) (of_terms es))
     where
       more : (m : Monomial) (z : ℤ) (es : List (Monomial × ℤ)) → total_derivative S i (polynomial_of ((m, z) ∷ es)) ≡ total_derivative S i (term m z) +ᴾ total_derivative S i (polynomial_of es)
       more m z es = ap (total_derivative S i) (of-cons terms (m, z) es ∙ ap (λ p. p +ᴾ polynomial_of es) (sym (term_is m z))) ∙ (total_is_derivation S i).plus (term m z) (polynomial_of es)

@@ -3,6 +3,7 @@ use Rattle.std.specs.Prelude.{◌≡◌, ℕ, zero, suc, ◌+◌, ◌<◌, ◌�
 use Rattle.std.specs.List.{AllByRecursion as Every}
 use Rattle.std.proofs.Common.{refl, sym, ap, subst, ◌∙◌, arith, get_or, eqb-true, eq-eqb, true≢false, ltb-true, ltb-false, le-ltb}
 use Rattle.std.proofs.lemmas.List.{take_more}
+use Rattle.std.proofs.lemmas.List.Elements.{All-from_recursion}
 use Rattle.lie_math.specs.Canonical.{sum_of_entries-append}
 use Rattle.lie_math.specs.FiniteSumLaws.{of_list, list-of}
 use Rattle.lie_math.specs.Limits.{absolute, absolutes}
@@ -34,11 +35,6 @@ use Rattle.lie_jet.proofs.Raised.{slope_of_jet, slope_at_itself, slope_elsewhere
 use Rattle.lie_jet.proofs.TotalSteps.{sum_one, bulk_one}
 
 -- ---- sums over entries
-pub every_at : {X : Type 0} (P : X → Type 0) (xs : List X) (k : ℕ) (d : X) → Every P xs → k < length xs → P (get_or xs k d)
-every_at P [] k d h l = absurd (omega arith)
-every_at P (x ∷ xs) zero d h l = h.0
-every_at P (x ∷ xs) (suc k) d h l = every_at P xs k d h.1 (omega arith)
-
 module _ {K A : Type 0} (φ : K → A → WholePolynomial) where
   pub entries_more : (ps qs : List (K × A)) (k : ℕ) (d : K × A) → qs ≡ ps → k < length qs → sum_of_entries polynomials φ (take (k + 1) ps) ≡ sum_of_entries polynomials φ (take k ps) +ᴾ φ (get_or qs k d).0 (get_or qs k d).1
   entries_more ps qs k d e h =
@@ -61,7 +57,7 @@ nonneg_term m n = subst IsNonNegative (sym (term_is m (pos n))) (nonneg_absolute
 -- ---- the powers of a monomial
 -- the exponent at an entry, which is not 0
 pub power_at : (m : Monomial) (ps : List (ℕ × ℕ)) (k : ℕ) → ps ≡ m.list → k < length ps → (exponent m (get_or ps k (0, 0)).0 ≡ (get_or ps k (0, 0)).1) × (¬ ((get_or ps k (0, 0)).1 ≡ 0))
-power_at m ps k e h = every_at (λ (p : ℕ × ℕ). (exponent m p.0 ≡ p.1) × (¬ (p.1 ≡ 0))) ps k (0, 0) (subst (Every (λ (p : ℕ × ℕ). (exponent m p.0 ≡ p.1) × (¬ (p.1 ≡ 0)))) (sym e) (entries_of powers m (λ (p : ℕ × ℕ). (exponent m p.0 ≡ p.1) × (¬ (p.1 ≡ 0))) (λ p a b. (a, b)))) h
+power_at m ps k e h = All-from_recursion (λ (p : ℕ × ℕ). (exponent m p.0 ≡ p.1) × (¬ (p.1 ≡ 0))) ps (subst (Every (λ (p : ℕ × ℕ). (exponent m p.0 ≡ p.1) × (¬ (p.1 ≡ 0)))) (sym e) (entries_of powers m (λ (p : ℕ × ℕ). (exponent m p.0 ≡ p.1) × (¬ (p.1 ≡ 0))) (λ p a b. (a, b)))) k (0, 0) h
 
 pub variable_below : (n : ℕ) (m : Monomial) (ps : List (ℕ × ℕ)) (k : ℕ) → HasVariablesBelow n m → ps ≡ m.list → k < length ps → (get_or ps k (0, 0)).0 < n
 variable_below n m ps k low e h = go (λ a. low _ a)
@@ -76,7 +72,7 @@ variable_below n m ps k low e h = go (λ a. low _ a)
             test true e = ltb-true v n e
             test false e = absurd (b (sym a ∙ f (ltb-false v n e)))
 
-pub number_of_independent : (S : Space) (j : ℕ) → number S (independent j) ≡ j
+number_of_independent : (S : Space) (j : ℕ) → number S (independent j) ≡ j
 unfolding number
 number_of_independent S j = refl
 
@@ -155,7 +151,7 @@ abbrev Fine : ℕ → Monomial × ℤ → Type 0
 Fine n x = HasVariablesBelow n x.0 × (¬ (x.1 ≡ pos 0))
 
 pub term_fine : (n : ℕ) (P : WholePolynomial) (es : List (Monomial × ℤ)) (k : ℕ) (x : Monomial × ℤ) → IsIn (is_below n) P → es ≡ P.list → k < length es → x ≡ get_or es k x → HasVariablesBelow n x.0 × (¬ (x.1 ≡ pos 0))
-term_fine n P es k x low e h q = subst (Fine n) (sym q) (every_at (Fine n) es k x (subst (Every (Fine n)) (sym e) (entries_of terms P (Fine n) (λ y a b. (λ v g. low v (le-ltb v n g) y.0 (λ z. b (sym a ∙ z)), b)))) h)
+term_fine n P es k x low e h q = subst (Fine n) (sym q) (All-from_recursion (Fine n) es (subst (Every (Fine n)) (sym e) (entries_of terms P (Fine n) (λ y a b. (λ v g. low v (le-ltb v n g) y.0 (λ z. b (sym a ∙ z)), b)))) k x h)
 
 -- ---- one term more
 pub total_more : (S : Space) (i : ℕ) (xs : List (Monomial × ℤ)) (k : ℕ) (x : Monomial × ℤ) → k < length xs → x ≡ get_or xs k x → total_derivative S i (sum_listed (take (k + 1) xs)) ≡ total_derivative S i (sum_listed (take k xs)) +ᴾ total_derivative S i (term x.0 x.1)

@@ -4,6 +4,7 @@ use Rattle.std.specs.Int.{◌∣◌}
 use Rattle.std.specs.List.{AllByRecursion as Every}
 use Rattle.std.proofs.Common.{refl, sym, ap, ap₂, subst, ◌∙◌, arith, is_lt, true≢false}
 use Rattle.std.proofs.lemmas.Nat.Gcd.{dvd_refl}
+use Rattle.lie_ring.proofs.Fronts.{every-front, every-back}
 use Rattle.lie_math.specs.SortedSum.{below_all}
 use Rattle.lie_math.specs.Canonical.{both, first, second}
 use Rattle.lie_math.specs.FiniteSum as finite
@@ -40,14 +41,6 @@ use Rattle.lie_jet.proofs.TotalParts.{entries_same}
 use Rattle.lie_ring.proofs.Fronts.{take_more}
 
 -- ---- lists
-every_front : {X : Type 0} (Q : X → Type 0) (xs ys : List X) → Every Q (xs ++ ys) → Every Q xs
-every_front Q [] ys h = tt
-every_front Q (x ∷ xs) ys h = (h.0, every_front Q xs ys h.1)
-
-every_back : {X : Type 0} (Q : X → Type 0) (xs ys : List X) → Every Q (xs ++ ys) → Every Q ys
-every_back Q [] ys h = h
-every_back Q (x ∷ xs) ys h = every_back Q xs ys h.1
-
 pub term_back : (m : Monomial) (a : ℤ) (old new : List (Monomial × ℤ)) (t : Monomial × ℤ) (rest : Monomial) (q : ℤ) → new ≡ old ++ (rest, q) ∷ [] → rest ≡ without_factor m t.0 → a *ℤ q ≡ t.1 → DividesMonomial m t.0 → times_list m a new ≡ times_list m a old ++ t ∷ []
 term_back m a old new t rest q e r n d =
     ap (times_list m a) e ∙ times-append m a old ((rest, q) ∷ [])
@@ -66,12 +59,12 @@ divided_at m a [] i e lt is h k = absurd (omega arith)
 divided_at m a (x ∷ es) zero e lt is h k =
     subst (λ (y : Der × WholePolynomial). Every (IsDividedTerm m a) (y.1).list) (sym is)
     (with_divided m a (derivative_of x.0) (x.1).list
-    (every_front (λ (t : Triple). unsigned_abs a ∣ unsigned_abs t.2) (triples_with (derivative_of x.0) (x.1).list) (triples_in (coefficients_of es)) h)
-    (every_front (λ (t : Triple). DividesMonomial m t.1) (triples_with (derivative_of x.0) (x.1).list) (triples_in (coefficients_of es)) k))
+    (every-front (λ (t : Triple). unsigned_abs a ∣ unsigned_abs t.2) (triples_with (derivative_of x.0) (x.1).list) (triples_in (coefficients_of es)) h)
+    (every-front (λ (t : Triple). DividesMonomial m t.1) (triples_with (derivative_of x.0) (x.1).list) (triples_in (coefficients_of es)) k))
 divided_at m a (x ∷ es) (suc i) e lt is h k =
     divided_at m a es i e (omega arith) is
-    (every_back (λ (t : Triple). unsigned_abs a ∣ unsigned_abs t.2) (triples_with (derivative_of x.0) (x.1).list) (triples_in (coefficients_of es)) h)
-    (every_back (λ (t : Triple). DividesMonomial m t.1) (triples_with (derivative_of x.0) (x.1).list) (triples_in (coefficients_of es)) k)
+    (every-back (λ (t : Triple). unsigned_abs a ∣ unsigned_abs t.2) (triples_with (derivative_of x.0) (x.1).list) (triples_in (coefficients_of es)) h)
+    (every-back (λ (t : Triple). DividesMonomial m t.1) (triples_with (derivative_of x.0) (x.1).list) (triples_in (coefficients_of es)) k)
 
 each_times-append : (p : WholePolynomial) (es fs : List (Derivative × WholePolynomial)) → each_times p (es ++ fs) ≡ each_times p es ++ each_times p fs
 each_times-append p [] fs = refl

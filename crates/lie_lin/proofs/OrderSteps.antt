@@ -1,8 +1,6 @@
 -- Counting triples, and comparing two lists of them one after the other.
 use Rattle.std.specs.Prelude.{◌≡◌, ℕ, zero, suc, ◌+◌, ◌<◌, ◌≤◌, ◌⊎◌, List, [], ◌∷◌, length, get_or, take, drop, ℤ}
-use Rattle.std.proofs.Common.{Ordering, Less, Equal, Greater, inl, inr, ⊎_elim, refl, sym, ap, ap₂, ◌∙◌, arith, length-append, nat_cmp}
-use Rattle.std.specs.Ordering.{MatchOrdering}
-use Rattle.std.specs.Cmp.{nat_cmp_is, ranks}
+use Rattle.std.proofs.Common.{Ordering, inl, inr, ⊎_elim, refl, sym, ap, ap₂, ◌∙◌, arith, length-append, nat_cmp}
 use Rattle.std.specs.Cmp.Lexicographic.{slice_cmp}
 use Rattle.lie_math.specs.Monomial.{Monomial}
 use Rattle.lie_math.specs.Polynomial.{WholePolynomial}
@@ -11,6 +9,7 @@ use Rattle.lie_systems.specs.Triples.{triples_in, triples_with}
 use Rattle.lie_jet.specs.declared.derivative.Der.{Der}
 use Rattle.lie_jet.specs.Derivatives.{derivative_of}
 use Rattle.lie_lin.specs.Forms.{triples_of, coefficients_of}
+use Rattle.lie_ring.proofs.PairOrder.{used_up}
 use Rattle.lie_lin.proofs.Forms.{triples_more}
 use Rattle.lie_jet.proofs.FormCauses.{length-with}
 
@@ -27,19 +26,18 @@ Kept = Der × Monomial × ℤ
 abbrev pub order_from : ℕ → List Kept → List Kept → Ordering
 order_from i xs ys = slice_cmp triple_cmp (triples_of (drop i xs)) (triples_of (drop i ys))
 
+kept_length : (xs : List Kept) → length (triples_of xs) ≡ length xs
+kept_length [] = refl
+kept_length (x ∷ xs) = ap suc (kept_length xs)
+
+kept_rest : (i : ℕ) (xs : List Kept) → drop i (triples_of xs) ≡ triples_of (drop i xs)
+kept_rest zero xs = refl
+kept_rest (suc i) [] = refl
+kept_rest (suc i) (x ∷ xs) = kept_rest i xs
+
 -- one of them is used up
 pub order_end : (xs ys : List Kept) (i : ℕ) → i ≤ length xs → i ≤ length ys → (length xs ≤ i) ⊎ (length ys ≤ i) → nat_cmp (length xs) (length ys) ≡ order_from i xs ys
-order_end [] [] zero h k e = refl
-order_end [] [] (suc i) h k e = absurd (omega arith)
-order_end [] (y ∷ ys) zero h k e = sym (nat_cmp_is 0 (suc (length ys)) Less (omega arith))
-order_end [] (y ∷ ys) (suc i) h k e = absurd (omega arith)
-order_end (x ∷ xs) [] zero h k e = sym (nat_cmp_is (suc (length xs)) 0 Greater (omega arith))
-order_end (x ∷ xs) [] (suc i) h k e = absurd (omega arith)
-order_end (x ∷ xs) (y ∷ ys) zero h k e = absurd (omega arith)
-order_end (x ∷ xs) (y ∷ ys) (suc i) h k e =
-    sym (nat_cmp_is _ _ _ (shifted (length xs) (length ys) (nat_cmp (length xs) (length ys)) (ranks (length xs) (length ys)))) ∙ order_end xs ys i (omega arith) (omega arith) (⊎_elim (λ p. inl (omega arith)) (λ p. inr (omega arith)) e)
-  where
-    shifted : (m n : ℕ) (r : Ordering) → MatchOrdering r (m < n) (m ≡ n) (n < m) → MatchOrdering r (suc m < suc n) (suc m ≡ suc n) (suc n < suc m)
-    shifted m n Less h = omega arith
-    shifted m n Equal h = omega arith
-    shifted m n Greater h = omega arith
+order_end xs ys i h k e =
+    let m = kept_length xs in
+    let n = kept_length ys in
+    sym (ap₂ nat_cmp m n) ∙ used_up triple_cmp (triples_of xs) (triples_of ys) i (omega arith) (omega arith) (⊎_elim (λ p. inl (omega arith)) (λ p. inr (omega arith)) e) ∙ ap₂ (slice_cmp triple_cmp) (kept_rest i xs) (kept_rest i ys)

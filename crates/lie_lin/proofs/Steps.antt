@@ -1,6 +1,6 @@
 -- The steps of a sum of triples, one derivative after the other.
-use Rattle.std.specs.Prelude.{◌≡◌, ℕ, zero, suc, ◌+◌, ◌<◌, ◌≤◌, T, List, [], ◌∷◌, ◌++◌, length, get_or, take}
-use Rattle.std.proofs.Common.{refl, sym, ap, ap₂, subst, ◌∙◌, arith, add-one, append-nil, length-append}
+use Rattle.std.specs.Prelude.{◌≡◌, ℕ, ◌+◌, ◌<◌, ◌≤◌, T, List, [], ◌∷◌, ◌++◌, length, get_or, take}
+use Rattle.std.proofs.Common.{sym, ap, ap₂, subst, ◌∙◌, add-one, append-nil, length-append}
 use Rattle.std.proofs.Math.Seq.{take-suc}
 use Rattle.std.specs.List.{AllByRecursion as Every}
 use Rattle.lie_math.specs.SortedSum.{is_canonical}
@@ -11,21 +11,15 @@ use Rattle.lie_math.specs.LinearForm.{forms, LinearForm}
 use Rattle.lie_math.specs.Limits.{absolutes, IsWithinLimits as IsPolynomialWithinLimits}
 use Rattle.lie_systems.specs.Triples.{Triple, triples_in, triples_with, sum_of_triples}
 use Rattle.lie_systems.specs.Bulk.{absolute_triples, bulk, HasManyTriples, IsWithinLimits}
-use Rattle.lie_ring.specs.Causes.{IsCause}
-use Rattle.lie_ring.specs.declared.failures.PolyFail.{PolyFail}
+use Rattle.lie_ring.proofs.Fronts.{every-append, all_taken}
 use Rattle.lie_jet.specs.declared.derivative.Der.{Der}
-use Rattle.lie_lin.specs.Forms.{IsSumCause, derivatives_of, terms_at, coefficient_at, gathered, unless_zero, kept, AreDerivatives}
+use Rattle.lie_lin.specs.Forms.{derivatives_of, terms_at, coefficient_at, gathered, unless_zero, kept, AreDerivatives}
 use Rattle.lie_jet.specs.Derivatives.{derivative_of}
 use Rattle.lie_lin.proofs.Placing.{derivatives_of-append}
 use Rattle.lie_lin.proofs.Gathering.{gathered-append, kept-push, terms_at-absolute, canonical_kept, sum_is_kept}
-use Rattle.lie_lin.proofs.FormLimits.{cause_of_part, within_of_parts, many_of_parts}
+use Rattle.lie_lin.proofs.FormLimits.{within_of_parts, many_of_parts}
 use Rattle.lie_jet.proofs.FormParts.{triples_in-append}
 use Rattle.lie_jet.proofs.FormCauses.{length-with}
-
-get_same : (ders : List Der) (i : ℕ) (d e : Der) → i < length ders → get_or ders i d ≡ get_or ders i e
-get_same [] i d e lt = absurd (omega arith)
-get_same (x ∷ ders) zero d e lt = refl
-get_same (x ∷ ders) (suc i) d e lt = get_same ders i d e (omega arith)
 
 one_more : (ders : List Der) (i : ℕ) (d : Der) → i < length ders → derivatives_of (take (i + 1) ders) ≡ derivatives_of (take i ders) ++ derivative_of (get_or ders i d) ∷ []
 one_more ders i d lt = ap (λ n. derivatives_of (take n ders)) (add-one i) ∙ ap derivatives_of (take-suc ders i d lt) ∙ derivatives_of-append (take i ders) (get_or ders i d ∷ [])
@@ -50,32 +44,19 @@ count_step n k ders ts i d lt h e =
     us : List Triple
     us = absolute_triples ts
 
-every_push : (P : Derivative → Type 0) (ds : List Derivative) (d : Derivative) → Every P ds → P d → Every P (ds ++ d ∷ [])
-every_push P [] d h k = (k, tt)
-every_push P (e ∷ ds) d h k = (h.0, every_push P ds d h.1 k)
-
 abbrev pub AreWithin : List Derivative → List Triple → Type 0
 AreWithin ds ts = Every (λ d. IsPolynomialWithinLimits (polynomial_of (absolutes (terms_at d ts)))) ds
 
 pub within_step : (ders : List Der) (ts : List Triple) (i : ℕ) (d : Der) → i < length ders → AreWithin (derivatives_of (take i ders)) ts → IsPolynomialWithinLimits (polynomial_of (absolutes (terms_at (derivative_of (get_or ders i d)) ts))) → AreWithin (derivatives_of (take (i + 1) ders)) ts
-within_step ders ts i d lt h k = subst (λ ds. AreWithin ds ts) (sym (one_more ders i d lt)) (every_push (λ d. IsPolynomialWithinLimits (polynomial_of (absolutes (terms_at d ts)))) (derivatives_of (take i ders)) (derivative_of (get_or ders i d)) h k)
-
-pub cause_at : (ders : List Der) (ts : List Triple) → AreDerivatives (derivatives_of ders) ts → (i : ℕ) (d : Der) → i < length ders → (fail : PolyFail) → IsCause fail (polynomial_of (absolutes (terms_at (derivative_of (get_or ders i d)) ts))) → IsSumCause fail (bulk ts)
-cause_at ders ts all i d lt fail h = cause_of_part ders ts all i (get_or ders i d) lt (get_same ders i d (get_or ders i d) lt) fail h
-
-take_past : (ders : List Der) (i : ℕ) → length ders ≤ i → take i ders ≡ ders
-take_past [] zero le = refl
-take_past [] (suc i) le = refl
-take_past (x ∷ ders) zero le = absurd (omega arith)
-take_past (x ∷ ders) (suc i) le = ap (λ ds. x ∷ ds) (take_past ders i (omega arith))
+within_step ders ts i d lt h k = subst (λ ds. AreWithin ds ts) (sym (one_more ders i d lt)) (every-append (λ d. IsPolynomialWithinLimits (polynomial_of (absolutes (terms_at d ts)))) (derivatives_of (take i ders)) (derivative_of (get_or ders i d) ∷ []) h (k, tt))
 
 pub many_at : (ders : List Der) (ts : List Triple) → AreDerivatives (derivatives_of ders) ts → (i n : ℕ) → length ders ≤ i → n ≡ length (triples_in (gathered (derivatives_of (take i ders)) (absolute_triples ts))) → 1000000 < n → HasManyTriples (bulk ts)
-many_at ders ts all i n le e h = many_of_parts ders ts all (subst (λ k. 1000000 < k) (e ∙ ap (λ ds. length (triples_in (gathered (derivatives_of ds) (absolute_triples ts)))) (take_past ders i le)) h)
+many_at ders ts all i n le e h = many_of_parts ders ts all (subst (λ k. 1000000 < k) (e ∙ ap (λ ds. length (triples_in (gathered (derivatives_of ds) (absolute_triples ts)))) (all_taken ders i le)) h)
 
 pub within_at : (ders : List Der) (ts : List Triple) → AreDerivatives (derivatives_of ders) ts → (i n : ℕ) → length ders ≤ i → n ≡ length (triples_in (gathered (derivatives_of (take i ders)) (absolute_triples ts))) → n ≤ 1000000 → AreWithin (derivatives_of (take i ders)) ts → IsWithinLimits (bulk ts)
 within_at ders ts all i n le e h w =
-    within_of_parts ders ts all (subst (λ ds. AreWithin (derivatives_of ds) ts) (take_past ders i le) w)
-    (subst (λ k. k ≤ 1000000) (e ∙ ap (λ ds. length (triples_in (gathered (derivatives_of ds) (absolute_triples ts)))) (take_past ders i le)) h)
+    within_of_parts ders ts all (subst (λ ds. AreWithin (derivatives_of ds) ts) (all_taken ders i le) w)
+    (subst (λ k. k ≤ 1000000) (e ∙ ap (λ ds. length (triples_in (gathered (derivatives_of ds) (absolute_triples ts)))) (all_taken ders i le)) h)
 
 pub all_of_slice : (s ders : List Der) (ts : List Triple) → s ≡ ders → AreDerivatives (derivatives_of ders) ts → AreDerivatives (derivatives_of s) ts
 all_of_slice s ders ts e h = subst (λ ds. AreDerivatives (derivatives_of ds) ts) (sym e) h

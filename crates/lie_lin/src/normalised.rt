@@ -1,7 +1,6 @@
 // Normalised equations.
-ghost use Rattle.std.specs.Prelude.{◌≡◌, ◌++◌, ◌∷◌, [], IfOk, IfErr, OnOk, ◌*ℤ◌, pos, unsigned_abs};
+ghost use Rattle.std.specs.Prelude.{◌≡◌, ◌++◌, ◌∷◌, [], IfOk, IfErr, OnOk, pos, unsigned_abs};
 ghost use Rattle.std.specs.List.{AllByRecursion as Every};
-ghost use Rattle.std.specs.Int.{◌∣◌};
 ghost use Rattle.lie_math.specs.Polynomial.{term, ◌*ᴾ◌};
 ghost use Rattle.lie_poly.specs.Failures.{IsStarved};
 ghost use Rattle.lie_math.proofs.TermWise.{times_list};
@@ -21,18 +20,6 @@ use lie_poly::Flat;
 use lie_ring::{Mono, NoMemory, PolyFail, Polynomial, Ring, Whole};
 use std::alloc::Global;
 
-/// A number divided by one that divides it.
-fn quotient(number: Whole, divisor: Whole) -> Whole
-    requires apart { ¬ (divisor ≡ pos 0) }
-    requires divides { unsigned_abs divisor ∣ unsigned_abs number }
-    ensures { divisor *ℤ result ≡ number }
-{
-    match Whole::new(number.get() / divisor.get()) {
-        Some(quotient) => quotient,
-        None => number,
-    }
-}
-
 /// Puts a term behind others, divided by a number and a monomial that divide it.
 fn push_divided(
     out: &mut Vec<(Mono, Whole)>,
@@ -46,7 +33,7 @@ fn push_divided(
     ensures { OnOk result (times_list mono.now number out.new.items ≡ times_list mono.now number out.old.items ++ term.now ∷ []) }
 {
     let rest = without_factor(alloc, mono, &term.0)?;
-    out.push((rest, quotient(term.1, number)))?;
+    out.push((rest, term.1.exact_quotient(number)))?;
     Ok(())
 }
 

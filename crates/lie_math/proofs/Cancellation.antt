@@ -1,18 +1,15 @@
 -- A factor that is not 0 can be taken off both sides, and off an equation.
 use Rattle.std.specs.Prelude.{◌≡◌, ℕ, [], ◌∷◌, ◌↔◌, ℤ, pos}
 use Rattle.std.proofs.Common.{refl, sym, ap, ◌∙◌}
-use Rattle.lie_math.specs.FiniteSumLaws.{plus_comm}
-use Rattle.lie_math.specs.Polynomial.{WholePolynomial, terms, constant, 0ᴾ, negᴾ, ◌+ᴾ◌, ◌*ᴾ◌}
+use Rattle.lie_math.specs.Polynomial.{WholePolynomial, constant, 0ᴾ, negᴾ, ◌+ᴾ◌, ◌*ᴾ◌}
 use Rattle.lie_math.specs.PolynomialRing.{polynomial_ring}
 use Rattle.lie_math.specs.LinearForm.{LinearForm, IsMultipleOf, apply}
 use Rattle.lie_math.proofs.LinearForm.{apply_times}
-use Rattle.lie_math.proofs.Ring.{plus_cancel, times_nil}
+use Rattle.lie_math.proofs.Differences.{difference_zero}
+use Rattle.lie_math.proofs.Ring.{times_nil}
 use Rattle.lie_math.proofs.RingSolver.{v, c0, ◌⊕◌, ◌⊗◌, ⊖, solve, listed}
 use Rattle.lie_math.proofs.Weighing.{torsion}
 use Rattle.lie_math.proofs.ZeroDivisors.{no_zero_divisors}
-
-pub difference_zero : (p q : WholePolynomial) → p +ᴾ negᴾ q ≡ 0ᴾ → p ≡ q
-difference_zero p q h = plus_cancel polynomial_ring p q (negᴾ q) (plus_comm terms (negᴾ q) p ∙ h ∙ sym (polynomial_ring.neg_l q))
 
 difference : (a p q : WholePolynomial) → a *ᴾ p ≡ a *ᴾ q → a *ᴾ (p +ᴾ negᴾ q) ≡ 0ᴾ
 difference a p q e =

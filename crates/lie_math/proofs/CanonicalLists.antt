@@ -1,6 +1,7 @@
 -- Canonical lists: their parts, what may be put, replaced and left out, and their sums.
 use Rattle.std.specs.Prelude.{◌≡◌, true, not, ◌&&◌, T, List, [], ◌∷◌, ◌++◌}
-use Rattle.std.proofs.Common.{refl, sym, ap₂, subst, ◌∙◌, Ordering, Less, Equal, Greater, is_lt}
+use Rattle.std.proofs.Common.{sym, ap₂, subst, ◌∙◌, Less, is_lt}
+use Rattle.lie_math.proofs.Rising.{is_less}
 use Rattle.lie_math.specs.FiniteSum.{Shape, IsCanonical, of, plus}
 use Rattle.lie_math.specs.FiniteSumLaws.{value-of, value-plus}
 use Rattle.lie_math.specs.SortedSum.{below_all, delta, is_canonical}
@@ -55,17 +56,12 @@ module _ {K A : Type 0} (S : Shape K A) where
   canonical_join (e ∷ out) x y xs ys h k p =
       let b : Below e.0 (out ++ x ∷ xs) = canonical_below e (out ++ x ∷ xs) h in
       let bx : Below e.0 (x ∷ xs) = below_back e.0 out (x ∷ xs) b in
-      let ex : S.order e.0 x.0 ≡ Less = less (S.order e.0 x.0) (first _ (below_all S.order S.values e.0 xs) bx) in
+      let ex : S.order e.0 x.0 ≡ Less = is_less (S.order e.0 x.0) (first _ (below_all S.order S.values e.0 xs) bx) in
       let ey : S.order e.0 y.0 ≡ Less = S.total.trans e.0 x.0 y.0 ex p in
       canonical_cons e ((out ++ x ∷ []) ++ y ∷ ys) (canonical_value e (out ++ x ∷ xs) h)
       (below_both e.0 (out ++ x ∷ []) (y ∷ ys) (below_both e.0 out (x ∷ []) (below_front e.0 out (x ∷ xs) b) (both _ true (subst (λ r. T (is_lt r)) (sym ex) tt) tt))
       (both _ (below_all S.order S.values e.0 ys) (subst (λ r. T (is_lt r)) (sym ey) tt) (below_less S.order S.values S.total S.same e.0 y.0 ys ey (canonical_below y ys k))))
       (canonical_join out x y xs ys (canonical_tail e (out ++ x ∷ xs) h) k p)
-    where
-      less : (r : Ordering) → T (is_lt r) → r ≡ Less
-      less Less h = refl
-      less Equal h = absurd h
-      less Greater h = absurd h
 
   pub canonical_replace : (out : List (K × A)) (x z : K × A) (xs : List (K × A)) → IsCanonical S (out ++ x ∷ xs) → z.0 ≡ x.0 → T (not (S.values.is_nil z.1)) → IsCanonical S (out ++ z ∷ xs)
   canonical_replace [] x z xs h e v = canonical_cons z xs v (subst (λ k. Below k xs) (sym e) (canonical_below x xs h)) (canonical_tail x xs h)

@@ -9,7 +9,7 @@ use Rattle.lie_math.specs.FiniteSumLaws.{plus_comm, plus_idl, term_additive}
 use Rattle.lie_math.proofs.DualNumbers.{zero_part}
 use Rattle.lie_math.specs.Monomial.{unit}
 use Rattle.lie_math.specs.PolynomialRing.{polynomial_ring, polynomial_algebra}
-use Rattle.lie_math.proofs.Ring.{plus_cancel}
+use Rattle.lie_math.proofs.Differences.{difference_zero}
 use Rattle.lie_math.specs.Evaluation.{value_in}
 
 -- derivations that agree on the variables agree
@@ -42,13 +42,10 @@ bracket_is_derivation {D} {E} d e = record {
 
 -- two derivations that commute on the variables commute
 pub derivations_commute : {D E : WholePolynomial → WholePolynomial} → IsDerivation D → IsDerivation E → ((w : ℕ) → D (E (variable w)) ≡ E (D (variable w))) → (p : WholePolynomial) → D (E p) ≡ E (D p)
-derivations_commute {D} {E} d e is p = off (D (E p)) (E (D p)) (derivations_agree (bracket_is_derivation d e) zero_is_derivation (λ w. ap (λ x. x +ᴾ negᴾ (E (D (variable w)))) (is w) ∙ plus_comm terms _ _ ∙ polynomial_ring.neg_l _) p)
+derivations_commute {D} {E} d e is p = difference_zero (D (E p)) (E (D p)) (derivations_agree (bracket_is_derivation d e) zero_is_derivation (λ w. ap (λ x. x +ᴾ negᴾ (E (D (variable w)))) (is w) ∙ plus_comm terms _ _ ∙ polynomial_ring.neg_l _) p)
   where
     zero_is_derivation : IsDerivation (λ p. 0ᴾ)
     zero_is_derivation = record { plus = λ p q. sym (plus_idl terms 0ᴾ); times = zero_part; whole = λ c. refl }
-
-    off : (a b : WholePolynomial) → a +ᴾ negᴾ b ≡ 0ᴾ → a ≡ b
-    off a b h = plus_cancel polynomial_ring a b (negᴾ b) (plus_comm terms (negᴾ b) a ∙ h ∙ sym (polynomial_ring.neg_l b))
 
 -- derivations that agree on what is put in
 pub derived_inside : {D E : WholePolynomial → WholePolynomial} → IsDerivation D → IsDerivation E → (s : ℕ → WholePolynomial) → ((w : ℕ) → D (s w) ≡ E (s w)) → (p : WholePolynomial) → D (value_in polynomial_algebra s p) ≡ E (value_in polynomial_algebra s p)

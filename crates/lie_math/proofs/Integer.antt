@@ -1,6 +1,6 @@
 -- The whole numbers: no divisors of zero, signs, and division that leaves nothing.
-use Rattle.std.specs.Prelude.{◌≡◌, ℕ, zero, suc, ◌*◌, ◌/◌, ◌<◌, [], ◌∷◌, ℤ, pos, negsuc, ◌+ℤ◌, ◌*ℤ◌, neg_ℤ, unsigned_abs, int_div}
-use Rattle.std.proofs.Common.{refl, sym, ap, ◌∙◌, arith}
+use Rattle.std.specs.Prelude.{◌≡◌, ℕ, zero, suc, ◌*◌, ◌/◌, ◌<◌, [], ◌∷◌, ℤ, pos, negsuc, ◌+ℤ◌, ◌*ℤ◌, neg_ℤ, unsigned_abs, int_div, ◌⊎◌}
+use Rattle.std.proofs.Common.{refl, sym, ap, ◌∙◌, arith, inl, inr}
 use Rattle.std.proofs.Math.Nat.{eq_of_mul-eq-mul_left, div-mul_cancel, mul_comm}
 use Rattle.std.proofs.lemmas.Int.{unsigned_abs-mul}
 use Prim.Native.Nat.{◌∣◌}
@@ -43,6 +43,11 @@ int_div_exact (negsuc n) g h =
 
 pub not_zero : (n : ℕ) → 0 < n → ¬ (pos n ≡ pos 0)
 not_zero n h e = let k : n ≡ 0 = ap unsigned_abs e in omega arith
+
+pub zero_or_not : (z : ℤ) → (z ≡ pos 0) ⊎ ¬ (z ≡ pos 0)
+zero_or_not (pos zero) = inl refl
+zero_or_not (pos (suc n)) = inr (λ e. absurd (omega (arith, ints)))
+zero_or_not (negsuc n) = inr (λ e. absurd (omega (arith, ints)))
 
 pub product_not_zero : (a b : ℤ) → ¬ (a ≡ pos 0) → ¬ (b ≡ pos 0) → ¬ (a *ℤ b ≡ pos 0)
 product_not_zero a b n m e = m (no_zero_divisors_ℤ a b n e)

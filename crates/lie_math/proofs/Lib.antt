@@ -6,6 +6,8 @@ pub mod PartialDerivative
 pub mod Evaluation
 pub mod RingSolver
 pub mod DualNumbers
+pub mod Differences
+pub mod SomeElement
 pub mod Derivation
 pub mod SumOf
 pub mod Substitution
@@ -18,6 +20,7 @@ pub mod Weighing
 pub mod Counts
 pub mod LinearForm
 pub mod Limits
+pub mod Rising
 pub mod CanonicalLists
 pub mod Dependence
 pub mod Powers
@@ -29,4 +32,3 @@ pub mod WorkedValues
 pub mod PrintedFirst
 pub mod PrintOrder
 pub mod TermWise
-pub mod Rising

@@ -112,13 +112,10 @@ module _ {A : Type 0} (R : Ring A) (at : ℕ → A) where
       ap (R.adder.plus (means (a ⊕ b))) (sum-append (sides a).1 (sides b).1) ∙ middle R.adder _ _ _ _ ∙ ap₂ R.adder.plus (balance a) (balance b)
       ∙ sym (sum-append (sides a).0 (sides b).0)
   balance (a ⊗ b) =
-      ap (R.adder.plus (means (a ⊗ b))) (parts (by_all (sides a).0 (sides b).1) (by_all (sides a).1 (sides b).0) ∙ ap₂ R.adder.plus (sum-by_all (sides a).0 (sides b).1 ∙ ap (λ x. R.times x (sum (sides b).1)) (sym (balance a))) (sum-by_all (sides a).1 (sides b).0 ∙ ap (R.times (sum (sides a).1)) (sym (balance b))))
+      ap (R.adder.plus (means (a ⊗ b))) (sum-append (by_all (sides a).0 (sides b).1) (by_all (sides a).1 (sides b).0) ∙ ap₂ R.adder.plus (sum-by_all (sides a).0 (sides b).1 ∙ ap (λ x. R.times x (sum (sides b).1)) (sym (balance a))) (sum-by_all (sides a).1 (sides b).0 ∙ ap (R.times (sum (sides a).1)) (sym (balance b))))
       ∙ rearrange (means a) (means b) (sum (sides a).1) (sum (sides b).1)
-      ∙ sym (parts (by_all (sides a).0 (sides b).0) (by_all (sides a).1 (sides b).1) ∙ ap₂ R.adder.plus (sum-by_all (sides a).0 (sides b).0 ∙ ap₂ R.times (sym (balance a)) (sym (balance b))) (sum-by_all (sides a).1 (sides b).1))
+      ∙ sym (sum-append (by_all (sides a).0 (sides b).0) (by_all (sides a).1 (sides b).1) ∙ ap₂ R.adder.plus (sum-by_all (sides a).0 (sides b).0 ∙ ap₂ R.times (sym (balance a)) (sym (balance b))) (sum-by_all (sides a).1 (sides b).1))
     where
-      parts : (ms ns : Products) → sum (ms ++ ns) ≡ R.adder.plus (sum ms) (sum ns)
-      parts = sum-append
-
       -- ab + ((a + x)y + x(b + y)) = (a + x)(b + y) + xy
       rearrange : (a b x y : A) → R.adder.plus (R.times a b) (R.adder.plus (R.times (R.adder.plus a x) y) (R.times x (R.adder.plus b y))) ≡ R.adder.plus (R.times (R.adder.plus a x) (R.adder.plus b y)) (R.times x y)
       rearrange a b x y = simp (R.dist, dist_r R, R.adder.assoc, left_comm R.adder)

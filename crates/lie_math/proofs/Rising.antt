@@ -9,7 +9,7 @@ use Rattle.lie_math.specs.Canonical.{first, second, below-add_at}
 use Rattle.lie_math.specs.Monoid.{Values}
 use Rattle.lie_math.specs.SortedSum.{put_new, add_at, below_all, normal}
 
-is_less : (r : Ordering) → T (is_lt r) → r ≡ Less
+pub is_less : (r : Ordering) → T (is_lt r) → r ≡ Less
 is_less Less h = refl
 is_less Equal h = absurd h
 is_less Greater h = absurd h

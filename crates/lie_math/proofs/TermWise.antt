@@ -11,7 +11,7 @@ use Rattle.lie_math.proofs.FiniteSum.{value-put}
 use Rattle.lie_math.specs.FiniteSum as finite
 use Rattle.lie_math.specs.FiniteSumLaws as finite_laws
 use Rattle.lie_math.proofs.FiniteSum as finite_proofs
-use Rattle.lie_math.proofs.Integer.{no_zero_divisors_ℤ}
+use Rattle.lie_math.proofs.Integer.{no_zero_divisors_ℤ, not_zero}
 use Rattle.lie_math.specs.Monomial.{Monomial, ◌·◌, monomial_cmp, exponent, powers}
 use Rattle.lie_math.specs.Polynomial.{WholePolynomial, polynomials, terms, term, polynomial_of, 0ᴾ, ◌+ᴾ◌, ◌*ᴾ◌}
 use Rattle.lie_math.specs.Integer.{coefficients, is_zero_int, int_nil}
@@ -140,14 +140,11 @@ pub canonical_derived : (v : ℕ) (es : List (Monomial × ℤ)) → IsCanonical 
 canonical_derived v [] h = tt
 canonical_derived v (e ∷ es) h = by_exponent (canonical_derived v es (canonical_tail terms e es h)) (eqb (exponent e.0 v) 0) refl
   where
-    positive : (n : ℕ) → 0 < n → ¬ (pos n ≡ pos 0)
-    positive n p e = let k : n ≡ 0 = ap unsigned_abs e in omega arith
-
     by_exponent : IsCanonical terms (derived_list v es) → (t : Bool) → eqb (exponent e.0 v) 0 ≡ t → IsCanonical terms (cond t (derived_list v es) ((lower v e.0, e.1 *ℤ pos (exponent e.0 v)) ∷ derived_list v es))
     by_exponent i true t = i
     by_exponent i false t =
         canonical_cons terms (lower v e.0, e.1 *ℤ pos (exponent e.0 v)) (derived_list v es)
-        (subst (λ z. T (not (is_zero_int z))) (*ℤ_comm (pos (exponent e.0 v)) e.1) (product_not_zero (pos (exponent e.0 v)) e.1 (positive (exponent e.0 v) (occurs (exponent e.0 v) t)) (canonical_value terms e es h)))
+        (subst (λ z. T (not (is_zero_int z))) (*ℤ_comm (pos (exponent e.0 v)) e.1) (product_not_zero (pos (exponent e.0 v)) e.1 (not_zero (exponent e.0 v) (occurs (exponent e.0 v) t)) (canonical_value terms e es h)))
         (below_derived v e.0 es (occurs (exponent e.0 v) t) (canonical_below terms e es h)) i
 
 pub absolutes-derived : (v : ℕ) (es : List (Monomial × ℤ)) → absolutes (derived_list v es) ≡ derived_list v (absolutes es)

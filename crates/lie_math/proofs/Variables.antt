@@ -85,13 +85,13 @@ pairs_bound es = sum_of_entries maxima (λ w e. suc w) es
 abbrev terms_bound : List (Monomial × ℤ) → ℕ
 terms_bound es = sum_of_entries maxima (λ m a. pairs_bound m.list) es
 
-max_left : (a b n : ℕ) → max a b ≤ n → a ≤ n
+pub max_left : (a b n : ℕ) → max a b ≤ n → a ≤ n
 max_left a b n h = omega arith
 
-max_right : (a b n : ℕ) → max a b ≤ n → b ≤ n
+pub max_right : (a b n : ℕ) → max a b ≤ n → b ≤ n
 max_right a b n h = omega arith
 
-T_of_true : (b : Bool) → b ≡ true → T b
+pub T_of_true : (b : Bool) → b ≡ true → T b
 T_of_true b e = subst T (sym e) tt
 
 pairs_below : (n : ℕ) (es : List (ℕ × ℕ)) → pairs_bound es ≤ n → T (pairs_in (is_below n) es)

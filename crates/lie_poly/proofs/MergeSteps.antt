@@ -1,6 +1,7 @@
 -- The steps of the merge of two lists of tallies.
 use Rattle.std.proofs.Common.{◌≡◌, ℕ, suc, ◌+◌, ◌<◌, ◌≤◌, ◌^◌, List, [], ◌∷◌, ◌++◌, length, refl, sym, ap, ap₂, ◌∙◌, subst, arith, not, T, ℤ, pos, ◌+ℤ◌, Less, Equal, Greater}
 use Rattle.std.specs.Prelude.{unsigned_abs}
+use Rattle.std.proofs.lemmas.List.{length_push}
 use borrow.Author.Differences.{ints}
 use Rattle.lie_math.specs.Canonical.{left_comm, value_at-head}
 use Rattle.lie_math.specs.FiniteSum as finite
@@ -99,10 +100,6 @@ module _ {C : Type 0} (value : C → ℤ) where
   firsts_are (x ∷ xs) [] = refl
   firsts_are (x ∷ xs) (y ∷ ys) = refl
 
-  pub length-snoc : {A : Type 0} (out : List A) (x : A) → length (out ++ x ∷ []) ≡ suc (length out)
-  length-snoc [] x = refl
-  length-snoc (o ∷ out) x = ap suc (length-snoc out x)
-
   -- more than the limit is out already
   many : (out l r us vs : List (Tally C)) → Merging terms (sizes out) (sizes l) (sizes r) (sizes us) (sizes vs) → IsBulkOf (sums value out) (sizes out) → IsBulkOf (sums value l) (sizes l) → IsBulkOf (sums value r) (sizes r) → 1000000 < length out → HasManyTerms (both_bulk us vs)
   many out l r us vs m ob lb rb n =
@@ -138,11 +135,11 @@ module _ {C : Type 0} (value : C → ℤ) where
       out_within = within_snoc out x s.out_within (s.left.within.0, s.left.within.1, tt);
       left = tail x xs s.left;
       right = s.right;
-      few = omega (arith, length-snoc out x);
+      few = omega (arith, length_push out x);
     }
 
     pub full_less : 1000000 ≤ length out → HasManyTerms (both_bulk us vs)
-    full_less n = many (out ++ x ∷ []) xs r us vs next_less out_less s.left.bulk.3 s.right.bulk (omega (arith, length-snoc out x))
+    full_less n = many (out ++ x ∷ []) xs r us vs next_less out_less s.left.bulk.3 s.right.bulk (omega (arith, length_push out x))
 
   module _ (out l ys us vs : List (Tally C)) (y : Tally C) (s : State out l (y ∷ ys) us vs) (e : Greater ≡ firsts l (y ∷ ys)) where
     next_greater : Merging terms (sizes (out ++ y ∷ [])) (sizes l) (sizes ys) (sizes us) (sizes vs)
@@ -162,11 +159,11 @@ module _ {C : Type 0} (value : C → ℤ) where
       out_within = within_snoc out y s.out_within (s.right.within.0, s.right.within.1, tt);
       left = s.left;
       right = tail y ys s.right;
-      few = omega (arith, length-snoc out y);
+      few = omega (arith, length_push out y);
     }
 
     pub full_greater : 1000000 ≤ length out → HasManyTerms (both_bulk us vs)
-    full_greater n = many (out ++ y ∷ []) l ys us vs next_greater out_greater s.left.bulk s.right.bulk.3 (omega (arith, length-snoc out y))
+    full_greater n = many (out ++ y ∷ []) l ys us vs next_greater out_greater s.left.bulk s.right.bulk.3 (omega (arith, length_push out y))
 
   module _ (out xs ys us vs : List (Tally C)) (x y : Tally C) (s : State out (x ∷ xs) (y ∷ ys) us vs) (e : Equal ≡ firsts (x ∷ xs) (y ∷ ys)) where
     -- the coefficient of the bulk at the monomial is at least the two sizes
@@ -212,11 +209,11 @@ module _ {C : Type 0} (value : C → ℤ) where
         out_within = within_snoc out z s.out_within ((let f : z.size < 2 ^ 127 = omega arith in f), subst Rattle.lie_math.specs.Limits.HasLowExponents (sym em) s.left.within.1, tt);
         left = tail x xs s.left;
         right = tail y ys s.right;
-        few = omega (arith, length-snoc out z);
+        few = omega (arith, length_push out z);
       }
 
       pub full_equal : 1000000 ≤ length out → HasManyTerms (both_bulk us vs)
-      full_equal n = many (out ++ z ∷ []) xs ys us vs next_equal out_equal s.left.bulk.3 s.right.bulk.3 (omega (arith, length-snoc out z))
+      full_equal n = many (out ++ z ∷ []) xs ys us vs next_equal out_equal s.left.bulk.3 s.right.bulk.3 (omega (arith, length_push out z))
 
   pub state_end : (out us vs : List (Tally C)) → State out [] [] us vs → Tells value out (sum_of value us +ᴾ sum_of value vs) (both_bulk us vs)
   unfolding finite.none

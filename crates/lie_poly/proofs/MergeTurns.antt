@@ -1,5 +1,5 @@
 -- The turns of the merge's loop, over lists that have the first tally last.
-use Rattle.std.proofs.Common.{◌≡◌, ◌+◌, ◌<◌, ◌≤◌, ◌^◌, List, [], ◌∷◌, ◌++◌, length, reverse, refl, sym, ap, ap₂, ◌∙◌, subst, subst₂, arith, ℤ, ◌+ℤ◌, Ordering, Less, Equal, Greater}
+use Rattle.std.proofs.Common.{◌≡◌, ◌+◌, ◌<◌, ◌≤◌, ◌^◌, List, [], ◌∷◌, ◌++◌, length, reverse, sym, ap, ap₂, ◌∙◌, subst, subst₂, ℤ, ◌+ℤ◌, Ordering, Less, Equal, Greater}
 use Rattle.std.proofs.lemmas.List.{reverse-append, reverse-reverse}
 use Rattle.lie_math.specs.Polynomial.{◌+ᴾ◌}
 use Rattle.lie_ring.specs.Limits.{HasWideCoefficient, HasManyTerms}
@@ -61,7 +61,3 @@ module _ {C : Type 0} (value : C → ℤ) (out ls rs us vs : List (Tally C)) (s 
   turns_end made p q e =
       subst (λ o. Tells value o (sum_of value us +ᴾ sum_of value vs) (bulk_of us +ᴾ bulk_of vs)) (sym (ap reverse e ∙ reverse-reverse out))
       (state_end value out us vs (subst₂ (λ l r. State value out l r us vs) (ap reverse p) (ap reverse q) s))
-
-pub no_items : {A : Type 0} (xs : List A) → length xs ≤ 0 → xs ≡ []
-no_items [] h = refl
-no_items (x ∷ xs) h = absurd (omega arith)

@@ -1,6 +1,5 @@
 -- How a sum of terms is told by tallies.
 use Rattle.std.proofs.Common.{◌≡◌, ℕ, ◌-◌, List, [], ◌∷◌, ◌++◌, length, take, drop, get_or, reverse, refl, sym, ap, ap₂, ◌∙◌, subst, subst₂, arith, ℤ, pos}
-use Rattle.std.proofs.lemmas.Grind.{common_steps}
 use Rattle.std.specs.Prelude.{unsigned_abs}
 use Rattle.lie_math.specs.Monomial.{Monomial}
 use Rattle.lie_math.specs.Polynomial.{WholePolynomial, polynomial_of, terms, ◌+ᴾ◌}
@@ -18,7 +17,7 @@ use Rattle.lie_poly.specs.declared.tally.Tally.{Tally}
 use Rattle.lie_poly.specs.Tallies.{sum_of, bulk_of, Tells}
 use Rattle.lie_poly.proofs.TermLists.{entries-append}
 use Rattle.lie_poly.proofs.TallyLists.{zeros_sum}
-use Rattle.std.proofs.lemmas.List.{take_rest}
+use Rattle.std.proofs.lemmas.List.{take-append-drop, take_rest}
 
 -- what is past in a part is past in the whole
 pub cause_covered : (fail : PolyFail) (p b : WholePolynomial) → IsCovered p b → IsCause fail p → IsCause fail b
@@ -32,9 +31,6 @@ cause_covered NoMemory p b c h = tt
 
 pub not_zero_of_size : (z : ℤ) → ¬ (unsigned_abs z ≡ 0) → ¬ (z ≡ pos 0)
 not_zero_of_size z n e = n (ap unsigned_abs e)
-
-both_parts : {A : Type 0} (xs : List A) (i : ℕ) → take i xs ++ drop i xs ≡ xs
-both_parts xs i = grind (arith, common_steps)
 
 module _ {C : Type 0} (value : C → ℤ) where
   pub tells_same : (ts : List (Tally C)) (p q b d : WholePolynomial) → p ≡ q → b ≡ d → Tells value ts p b → Tells value ts q d
@@ -63,7 +59,7 @@ module _ {C : Type 0} (value : C → ℤ) where
     upper_half = entries value (take (length xs - i) (drop i xs))
 
     pub halves : entries value xs ≡ lower_half ++ upper_half
-    halves = sym (ap (λ b. entries value (take i xs) ++ entries value b) (take_rest xs i) ∙ sym (entries-append value (take i xs) (drop i xs)) ∙ ap (entries value) (both_parts xs i))
+    halves = sym (ap (λ b. entries value (take i xs) ++ entries value b) (take_rest xs i) ∙ sym (entries-append value (take i xs) (drop i xs)) ∙ ap (entries value) (take-append-drop i xs))
 
     pub halves_sum : polynomial_of lower_half +ᴾ polynomial_of upper_half ≡ polynomial_of (entries value xs)
     halves_sum = sym (of-append terms lower_half upper_half) ∙ ap polynomial_of (sym halves)

@@ -20,7 +20,3 @@ module _ {C : Type 0} (value : C → ℤ) where
 
   pub entries_more : (xs : List (Monomial × C)) (i : ℕ) (x : Monomial × C) → i < length xs → x ≡ get_or xs i x → entries value (take (i + 1) xs) ≡ entries value (take i xs) ++ (x.0, value x.1) ∷ []
   entries_more xs i x h e = ap (entries value) (take_more xs i x h) ∙ entries-append (take i xs) (get_or xs i x ∷ []) ∙ ap (λ (y : Monomial × C). entries value (take i xs) ++ (y.0, value y.1) ∷ []) (sym e)
-
-  pub take_all : (xs : List (Monomial × C)) → take (length xs) xs ≡ xs
-  take_all [] = refl
-  take_all (x ∷ xs) = ap (λ ys. x ∷ ys) (take_all xs)

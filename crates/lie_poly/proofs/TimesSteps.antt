@@ -1,7 +1,6 @@
 -- How products are told by tallies.
-use Rattle.std.proofs.Common.{◌≡◌, ℕ, zero, suc, ◌<◌, ◌≤◌, List, [], ◌∷◌, ◌++◌, length, take, get_or, reverse, refl, sym, ap, ap₂, ◌∙◌, subst, subst₂, arith, ℤ, pos, ◌*ℤ◌}
+use Rattle.std.proofs.Common.{◌≡◌, ℕ, zero, suc, ◌<◌, ◌≤◌, List, [], ◌∷◌, ◌++◌, length, get_or, reverse, refl, sym, ap, ap₂, ◌∙◌, subst, subst₂, arith, ℤ, pos, ◌*ℤ◌}
 use Rattle.std.proofs.lemmas.List.{reverse-reverse}
-use Rattle.std.proofs.lemmas.Grind.{common_steps}
 use Rattle.std.specs.Prelude.{unsigned_abs}
 use Rattle.lie_math.specs.Monomial.{Monomial, ◌·◌}
 use Rattle.lie_math.specs.Polynomial.{WholePolynomial, polynomial_of, terms, term, constant, ◌+ᴾ◌, ◌*ᴾ◌}
@@ -28,9 +27,6 @@ use Rattle.lie_poly.proofs.TermLists.{length-entries, get-entries}
 use Rattle.lie_poly.proofs.TallyLists.{sums-append, sizes-append, length-sizes}
 use Rattle.lie_poly.proofs.SumSteps.{cause_covered, not_zero_of_size, tells_none, tells_same, lower_half, upper_half, halves_sum, halves_bulk}
 use Rattle.lie_poly.proofs.MergeSteps.{within_append}
-
-pub length-take_in : {A : Type 0} (xs : List A) (i : ℕ) → i ≤ length xs → length (take i xs) ≡ i
-length-take_in xs i h = grind (arith, common_steps)
 
 pub times-append : (m : Monomial) (c : ℤ) (es fs : List (Monomial × ℤ)) → times_list m c (es ++ fs) ≡ times_list m c es ++ times_list m c fs
 times-append m c [] fs = refl

@@ -1,6 +1,7 @@
 -- Absolute values of coefficients, and what they bound.
-use Rattle.std.specs.Prelude.{◌≡◌, ◌≤◌, ℕ, zero, suc, Bool, List, [], ◌∷◌, map, length, All, ℤ, pos, negsuc, ◌+ℤ◌, unsigned_abs}
+use Rattle.std.specs.Prelude.{◌≡◌, ◌≤◌, ℕ, zero, suc, Bool, List, [], ◌∷◌, map, All, ℤ, pos, negsuc, ◌+ℤ◌, unsigned_abs}
 use Rattle.std.proofs.Common.{refl, sym, ap, ap₂, subst, ◌∙◌, arith, get_or}
+use Rattle.std.proofs.lemmas.List.{length-map}
 use borrow.Author.Differences.{ints}
 use Rattle.lie_math.specs.Codes.{same_vector_field}
 use Rattle.lie_math.specs.VectorField.{VectorField, component}
@@ -100,12 +101,8 @@ component_in_z S V h s = go V.parts s h.in_z
     go (p ∷ ps) (suc s) k = go ps s (λ i d l. k (suc i) d (omega arith))
 
 pub absolute_on : (S : Space) (V W : VectorField) → W ≡ absolute_field V → IsFieldOn S V → IsFieldOn S W
-absolute_on S V W e h = subst (IsFieldOn S) (sym e) (record { positive = h.positive; size = same V.parts ∙ h.size; in_z = all V.parts h.in_z })
+absolute_on S V W e h = subst (IsFieldOn S) (sym e) (record { positive = h.positive; size = length-map V.parts absolute ∙ h.size; in_z = all V.parts h.in_z })
   where
-    same : (ps : List WholePolynomial) → length (map absolute ps) ≡ length ps
-    same [] = refl
-    same (p ∷ ps) = ap suc (same ps)
-
     all : (ps : List WholePolynomial) → All (InZ S) ps → All (InZ S) (map absolute ps)
     all [] h k d l = absurd (omega arith)
     all (p ∷ ps) h zero d l = absolute_in (is_in_z S) p (h 0 p (omega arith))

@@ -1,5 +1,5 @@
 -- The coordinates that occur in prolonged coefficients, and the bounds of the sums that they are made of.
-use Rattle.std.specs.Prelude.{◌≡◌, ℕ, zero, suc, ◌+◌, ◌*◌, ◌<◌, ◌≤◌, Bool, true, false, List, [], ◌∷◌, length, replicate, ltb, leb, negsuc}
+use Rattle.std.specs.Prelude.{◌≡◌, ℕ, zero, suc, ◌+◌, ◌*◌, ◌<◌, ◌≤◌, Bool, true, false, List, [], ◌∷◌, length, ltb, leb, negsuc}
 use Rattle.std.proofs.Common.{refl, sym, ap, subst, ◌∙◌, arith, ltb-true, lt-ltb}
 use Rattle.std.proofs.lemmas.Bool.{leb-true, leb-false}
 use Rattle.lie_math.specs.Counts.{raise, order}
@@ -8,7 +8,7 @@ use Rattle.lie_math.specs.PartialDerivative.{partial}
 use Rattle.lie_math.specs.Polynomial.{WholePolynomial, 0ᴾ, ◌*ᴾ◌, constant, variable}
 use Rattle.lie_math.specs.Variables.{IsIn}
 use Rattle.lie_math.proofs.ChainRule.{chain_rule_below}
-use Rattle.lie_math.proofs.Counts.{order_raise}
+use Rattle.lie_math.proofs.Counts.{order_raise, order_zeros}
 use Rattle.lie_math.proofs.Limits.{IsCovered, IsNonNegative, covered_first, covered_second, covered_trans, nonneg_none, nonneg_sum}
 use Rattle.lie_math.proofs.Variables.{in-+ᴾ, in-*ᴾ, in-constant, in-0ᴾ, in-variable, in-wider, in-partial}
 use Rattle.lie_geometry.specs.Coordinates.{Space, Coordinate, independent, jet, IsCoordinate, order_of, ways, number, coordinates_up_to, coordinate}
@@ -78,12 +78,11 @@ module _ (S : Space) (some_p : 0 < S.p) (some_q : 0 < S.q) where
 
   -- as many derivations as variables
   pub counted : (W : List ℕ) → order (counts_of S W) ≡ length W
-  counted [] = zeros S.p
-    where
-      zeros : (n : ℕ) → order (replicate n 0) ≡ 0
-      zeros zero = refl
-      zeros (suc n) = ap (λ m. 0 + m) (zeros n)
+  counted [] = order_zeros S.p
   counted (k ∷ W) = order_raise k (counts_of S W) ∙ ap suc (counted W)
+
+  pub raised_order : (i : ℕ) (W : List ℕ) → order (raise i (counts_of S W)) ≤ suc (length W)
+  raised_order i W = let e : order (raise i (counts_of S W)) ≡ suc (order (counts_of S W)) = order_raise i (counts_of S W) in let f : order (counts_of S W) ≡ length W = counted W in omega arith
 
   module _ (V : ℕ → WholePolynomial) (in_z : (s : ℕ) → InZ S (V s)) (a : ℕ) (inside : a < S.q) where
     -- a prolonged coefficient has no jet of an order above its own
@@ -98,9 +97,6 @@ module _ (S : Space) (some_p : 0 < S.p) (some_q : 0 < S.q) where
         (in_sum_of (below (suc (length W))) S.p _ (λ i e. in-*ᴾ (below (suc (length W))) (total_derivative S k (V i)) (jet_variable S a (raise i (counts_of S W)))
         (below_wider 1 (suc (length W)) (omega arith) (total_derivative S k (V i)) (total_in k 0 (V i) f (z_in 0 (V i) (in_z i))))
         (jet_in (suc (length W)) a (raise i (counts_of S W)) (inside, raise_length i (counts_of S W) (subst (λ m. i < m) (sym (counts_of_length S W g)) e) ∙ counts_of_length S W g) (raised_order i W)))))
-      where
-        raised_order : (i : ℕ) (W : List ℕ) → order (raise i (counts_of S W)) ≤ suc (length W)
-        raised_order i W = let e : order (raise i (counts_of S W)) ≡ suc (order (counts_of S W)) = order_raise i (counts_of S W) in let f : order (counts_of S W) ≡ length W = counted W in omega arith
 
 -- ---- sums over the first numbers
 pub nonneg_sum_of : (n : ℕ) (g : ℕ → WholePolynomial) → ((i : ℕ) → IsNonNegative (g i)) → IsNonNegative (sum_of (numbers_below n) g)

@@ -1,8 +1,8 @@
 -- Jets one after the other by their numbers.
 use Rattle.std.specs.Prelude.{◌≡◌, ℕ, suc, ◌+◌, ◌<◌, ◌≤◌, Bool, true, false, List, [], ◌∷◌, ◌++◌, map, length, take, All, ◌⊎◌, ltb}
-use Rattle.std.proofs.Common.{refl, sym, ap, subst, ◌∙◌, arith, ltb-true, ltb-false, inl, inr, zero, get_or}
+use Rattle.std.proofs.Common.{refl, sym, ap, subst, ◌∙◌, arith, ltb-true, ltb-false, inl, inr, get_or}
 use Rattle.std.specs.List.{range_with_len}
-use Rattle.std.proofs.lemmas.List.{map_push, length_push, get_or_push, get_or_append_left, get_or-map, length-map}
+use Rattle.std.proofs.lemmas.List.{map_push, length_push, get_or_push, get_or_append_left, get_or-map, length-map, length-take-le}
 use Rattle.std.proofs.lemmas.List.FromFn.{map-range_with_len_more, length-range_with_len, get_or-range_with_len}
 use Rattle.lie_math.specs.Counts.{order}
 use Rattle.lie_geometry.specs.Coordinates.{Space, Coordinate, IsCoordinate, order_of, jets_below, number, coordinates_up_to, coordinate}
@@ -27,13 +27,6 @@ range_more a n = sym (same (range_with_len a (n + 1))) ∙ map-range_with_len_mo
 -- one more at the end of numbers from a on
 pub range_push : (a : ℕ) (xs : List Jet) (j : Jet) (f : Jet → ℕ) → map f xs ≡ range_with_len a (length xs) → f j ≡ a + length xs → map f (xs ++ j ∷ []) ≡ range_with_len a (length (xs ++ j ∷ []))
 range_push a xs j f e h = map_push f xs j ∙ ap (λ ys. ys ++ f j ∷ []) e ∙ ap (λ k. range_with_len a (length xs) ++ k ∷ []) h ∙ sym (range_more a (length xs)) ∙ ap (range_with_len a) (sym (length_push xs j))
-
-pub All_one : {X : Type 0} (P : X → Type 0) (x : X) → P x → All P (x ∷ [])
-All_one P x h k d l = go k l
-  where
-    go : (k : ℕ) → k < 1 → P (get_or (x ∷ []) k d)
-    go zero l = h
-    go (suc k) l = absurd (omega arith)
 
 module _ (S : Space) where
   pub cut : (n : ℕ) (j : Jet) → IsJet S n j → length (take S.p j.counts) ≡ S.p
@@ -86,6 +79,10 @@ module _ (S : Space) (small : IsSmall S) where
     where
       between : (w a : ℕ) → a ≤ w → w ≤ a → w ≡ a
       between w a h k = omega arith
+
+-- as many values as jets
+pub values_counted : {A : Type 0} (made : List (Jet × A)) (js : List Jet) (i : ℕ) → map (λ v. v.0) made ≡ take i js → i < length js → length made ≡ i
+values_counted made js i e h = sym (length-map made (λ v. v.0)) ∙ ap length e ∙ length-take-le i js (omega arith)
 
 -- ---- values at the jets, one after the other
 module _ (S : Space) (n : ℕ) (js : List Jet) (are : AreJetsUpTo S n js) where

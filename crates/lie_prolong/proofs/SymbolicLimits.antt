@@ -1,7 +1,8 @@
 -- The jets that occur in the symbolic coefficients, and the orders of the derivatives of unknowns: no more than the order of the coefficient.
 use Rattle.std.specs.Prelude.{◌≡◌, ℕ, zero, suc, ◌+◌, ◌<◌, ◌≤◌, true, List, [], ◌∷◌, length, take, ltb, replicate, negsuc, pos}
 use Rattle.std.specs.List.{AllByRecursion as Every}
-use Rattle.std.proofs.Common.{sym, ap, subst, ◌∙◌, arith, ltb-true}
+use Rattle.std.proofs.Common.{sym, subst, ◌∙◌, arith, ltb-true}
+use Rattle.std.proofs.lemmas.List.{length-replicate}
 use Rattle.lie_math.specs.Counts.{Derivative, order, raise, raised}
 use Rattle.lie_math.specs.Derivation.{numbers_below}
 use Rattle.lie_math.specs.FiniteSumLaws as finite_laws
@@ -15,8 +16,8 @@ use Rattle.lie_geometry.specs.Coordinates.{Space}
 use Rattle.lie_geometry.specs.Prolongation.{indices, jet_variable, total_derivative, counts_of}
 use Rattle.lie_geometry.specs.SymbolicProlongation.{forms_over, unknown, symbolic_total, symbolic_coefficient, symbolic_coefficient_at}
 use Rattle.lie_geometry.proofs.Booleans.{and_left, and_right}
-use Rattle.lie_geometry.proofs.Indices.{raise_length, all_below, counts_of_length, counts_of-indices, below_indices}
-use Rattle.lie_geometry.proofs.SymbolicProlongation.{total_term, replicate_length}
+use Rattle.lie_geometry.proofs.Indices.{raise_length, all_below, counts_of_length, below_indices}
+use Rattle.lie_geometry.proofs.SymbolicProlongation.{total_term}
 use Rattle.lie_jet.specs.FormLimits.{HasJetsUpTo, HasOrdersUpTo}
 use Rattle.lie_jet.specs.Jets.{coordinate_of, IsJet}
 use Rattle.lie_jet.specs.declared.jet.Jet.{Jet}
@@ -24,7 +25,8 @@ use Rattle.lie_jet.proofs.FormBounds.{at}
 use Rattle.lie_jet.proofs.FormKept.{jets_none, jets_sum, jets_term, orders_none, orders_sum, orders_term}
 use Rattle.lie_jet.proofs.FormSteps.{low_entries}
 use Rattle.lie_prolong.proofs.JetLists.{cut}
-use Rattle.lie_prolong.proofs.Coefficients.{below, below_wider, jet_in, total_in, counted}
+use Rattle.lie_prolong.proofs.Recursion.{order_of_jet}
+use Rattle.lie_prolong.proofs.Coefficients.{below, below_wider, jet_in, total_in, raised_order}
 
 module _ (S : Space) (some_p : 0 < S.p) (some_q : 0 < S.q) where
   -- jets of order at most m in the coefficients, and derivatives of order at most n
@@ -65,7 +67,7 @@ module _ (S : Space) (some_p : 0 < S.p) (some_q : 0 < S.q) where
   low_total k n f E h = low_map (suc n) (suc n) n n (total_term S k) each E h
     where
       once : (b : ℕ) → b < S.q → IsIn (below S some_p some_q (suc n)) (jet_variable S b (raise k (replicate S.p 0)))
-      once b g = jet_in S some_p some_q (suc n) b (raise k (replicate S.p 0)) (g, raise_length k (replicate S.p 0) (subst (λ l. k < l) (sym (replicate_length S.p)) f) ∙ replicate_length S.p) (let e = order_raise k (replicate S.p 0) in let z = order_zeros S.p in omega arith)
+      once b g = jet_in S some_p some_q (suc n) b (raise k (replicate S.p 0)) (g, raise_length k (replicate S.p 0) (subst (λ l. k < l) (sym (length-replicate S.p 0)) f) ∙ length-replicate S.p 0) (let e = order_raise k (replicate S.p 0) in let z = order_zeros S.p in omega arith)
 
       more : (i : ℕ) (d : Derivative) → order d.counts ≤ n → order (raised i d).counts ≤ suc n
       more i d o = let e = order_raise i d.counts in omega arith
@@ -89,17 +91,14 @@ module _ (S : Space) (some_p : 0 < S.p) (some_q : 0 < S.q) where
       low_sum (suc (length W)) (suc (length W)) _ _ (low_total k (length W) f (symbolic_coefficient S a W) (low_coefficient a is W g))
       (low_times (suc (length W)) (suc (length W)) (constant (negsuc 0)) (in-constant (below S some_p some_q (suc (length W))) (negsuc 0)) _
       (low_over (suc (length W)) (suc (length W)) S.p _ (λ i e. low_times (suc (length W)) (suc (length W)) (jet_variable S a (raise i (counts_of S W)))
-      (jet_in S some_p some_q (suc (length W)) a (raise i (counts_of S W)) (is, raise_length i (counts_of S W) (subst (λ m. i < m) (sym (counts_of_length S W g)) e) ∙ counts_of_length S W g) (raised_order i W))
+      (jet_in S some_p some_q (suc (length W)) a (raise i (counts_of S W)) (is, raise_length i (counts_of S W) (subst (λ m. i < m) (sym (counts_of_length S W g)) e) ∙ counts_of_length S W g) (raised_order S some_p some_q i W))
       (symbolic_total S k (unknown i)) (wider 1 (suc (length W)) (omega arith) (symbolic_total S k (unknown i)) (low_total k 0 f (unknown i) (low_unknown 0 0 i))))))
-    where
-      raised_order : (i : ℕ) (W : List ℕ) → order (raise i (counts_of S W)) ≤ suc (length W)
-      raised_order i W = let e : order (raise i (counts_of S W)) ≡ suc (order (counts_of S W)) = order_raise i (counts_of S W) in let f : order (counts_of S W) ≡ length W = counted S some_p some_q W in omega arith
 
 -- the coefficient of a jet of order at most 11 has jets and derivatives of order at most 11
 pub low_symbolic : (S : Space) (l : Jet) (is : IsJet S 11 l) → IsLowForm S is.space.some_p is.space.some_q 11 63 (symbolic_coefficient_at S (coordinate_of S l))
 low_symbolic S l is =
     let W = indices (take S.p l.counts) in
-    let size : order (take S.p l.counts) ≡ length W = ap order (sym (counts_of-indices S (take S.p l.counts) (cut S 11 l is))) ∙ counted S is.space.some_p is.space.some_q W in
+    let size : order (take S.p l.counts) ≡ length W = order_of_jet S l is in
     let few : order (take S.p l.counts) ≤ 11 = is.low in
     let low = low_coefficient S is.space.some_p is.space.some_q l.dep is.dependent W (below_indices S.p (take S.p l.counts) (cut S 11 l is)) in
     record { jets = λ d. below_wider S is.space.some_p is.space.some_q (length W) 11 (omega arith) (at (symbolic_coefficient S l.dep W) d) (low.jets d); orders = λ d past. low.orders d (omega arith) }

@@ -16,9 +16,8 @@ use Rattle.lie_math.specs.Polynomial.{WholePolynomial, terms, constant, polynomi
 use Rattle.lie_math.proofs.Limits.{term_is}
 use Rattle.lie_poly.proofs.BulkLists.{limits_of}
 use Rattle.lie_geometry.specs.Coordinates.{Space}
-use Rattle.lie_geometry.specs.Prolongation.{indices, counts_of}
+use Rattle.lie_geometry.specs.Prolongation.{indices}
 use Rattle.lie_geometry.specs.SymbolicProlongation.{forms_over, unknown, symbolic_total, symbolic_coefficient, symbolic_coefficient_at}
-use Rattle.lie_geometry.proofs.Indices.{counts_of-indices}
 use Rattle.lie_ring.specs.Causes.{IsCause}
 use Rattle.lie_ring.specs.declared.failures.PolyFail.{PolyFail}
 use Rattle.lie_systems.specs.Bulk.{IsWithinLimits}
@@ -32,7 +31,7 @@ use Rattle.lie_jet.proofs.FormSteps.{at_term, form_total_bound}
 use Rattle.lie_jet.proofs.TotalBounds.{absolute_term}
 use Rattle.lie_prolong.specs.Lowered.{IsLowered}
 use Rattle.lie_prolong.specs.SymbolicBulks.{symbolic_multiple, symbolic_multiples, symbolic_coefficient_bulk, symbolic_bulk_at}
-use Rattle.lie_prolong.proofs.JetLists.{cut}
+use Rattle.lie_prolong.proofs.Recursion.{counts_of_jet}
 use Rattle.lie_prolong.proofs.SymbolicMultiples.{times_one, times_over, multiple_bound, component_at}
 
 -- ---- the multiples, one by one
@@ -94,18 +93,15 @@ module _ (S : Space) (k a : ℕ) (J : List ℕ) (B A : LinearForm) (sizes : A �
 
 -- ---- from the jet derived once less to the jet
 module _ (S : Space) (j l : Jet) (k : ℕ) (low : IsLowered S j k l) where
-  same_counts : counts_of S (indices (take S.p l.counts)) ≡ take S.p l.counts
-  same_counts = counts_of-indices S (take S.p l.counts) (cut S 11 l low.jet)
-
   pub symbolic_stepped : symbolic_total S k (symbolic_coefficient_at S (coordinate_of S l)) +ᶠ times_form (constant (negsuc 0)) (symbolic_multiples S k l.dep (take S.p l.counts)) ≡ symbolic_coefficient_at S (coordinate_of S j)
   unfolding symbolic_coefficient
   symbolic_stepped =
-      ap (λ K. symbolic_total S k (symbolic_coefficient_at S (coordinate_of S l)) +ᶠ times_form (constant (negsuc 0)) (symbolic_multiples S k l.dep K)) (sym same_counts)
+      ap (λ K. symbolic_total S k (symbolic_coefficient_at S (coordinate_of S l)) +ᶠ times_form (constant (negsuc 0)) (symbolic_multiples S k l.dep K)) (sym (counts_of_jet S l low.jet))
       ∙ ap₂ (λ a W. symbolic_coefficient S a W) low.dependent (sym low.first)
 
   pub symbolic_bulk_stepped : symbolic_total S k (each_coefficient absolute (symbolic_coefficient_at S (coordinate_of S l))) +ᶠ symbolic_multiples S k l.dep (take S.p l.counts) ≡ symbolic_bulk_at S (coordinate_of S j)
   symbolic_bulk_stepped =
-      ap (λ K. symbolic_total S k (each_coefficient absolute (symbolic_coefficient_at S (coordinate_of S l))) +ᶠ symbolic_multiples S k l.dep K) (sym same_counts)
+      ap (λ K. symbolic_total S k (each_coefficient absolute (symbolic_coefficient_at S (coordinate_of S l))) +ᶠ symbolic_multiples S k l.dep K) (sym (counts_of_jet S l low.jet))
       ∙ ap₂ (λ a W. symbolic_coefficient_bulk S a W) low.dependent (sym low.first)
 
 module _ (S : Space) (j : Jet) (none : indices (take S.p j.counts) ≡ []) where

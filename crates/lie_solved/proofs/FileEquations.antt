@@ -1,17 +1,16 @@
 -- The equations of a file are in coordinates of orders up to 6.
-use Rattle.std.specs.Prelude.{◌≡◌, ℕ, ◌+◌, ◌≤◌, ltb, Bool, false, List, [], ◌∷◌, ◌++◌, length, Option, Some, None, IfSome}
-use Rattle.std.proofs.Common.{ap, arith}
+use Rattle.std.specs.Prelude.{◌≡◌, ℕ, ◌+◌, ◌≤◌, List, [], ◌∷◌, length, Option, Some, None, IfSome}
+use Rattle.std.proofs.Common.{arith}
 use Rattle.std.specs.List.{AllByRecursion as Every}
 use Rattle.std.proofs.lemmas.Bool.Decides.{leb_tells}
-use Rattle.std.proofs.lemmas.List.{length-append}
-use Rattle.lie_math.specs.Variables.{IsIn}
 use Rattle.lie_geometry.specs.Coordinates.{Space, Coordinate, coordinates_up_to}
 use Rattle.lie_jet.specs.Jets.{IsSmall}
 use Rattle.lie_gram.specs.Meaning.{EquationRead, SystemRead}
 use Rattle.lie_gram.specs.SumGrammar.{HasLead, IsEquation}
 use Rattle.lie_gram.specs.FileGrammar.{AreEquations, AreSystem, IsFile}
-use Rattle.lie_gram.proofs.FileCoordinates.{coordinate_good, small_space}
+use Rattle.lie_gram.proofs.FileCoordinates.{coordinate_good}
 use Rattle.lie_gram.proofs.FileTerms.{equation_low}
+use Rattle.lie_gram.proofs.LeadSides.{well_named}
 use Rattle.lie_solved.specs.Equations.{IsLow, IsWritten, AreWritten}
 
 module _ (S : Space) (small : IsSmall S) (names : List ℕ) (many : length names ≡ S.p + S.q) where
@@ -32,12 +31,8 @@ module _ (S : Space) (small : IsSmall S) (names : List ℕ) (many : length names
 
 system_written : (contents : List (List ℕ)) (s : SystemRead) → AreSystem contents s → AreWritten s.space s.equations
 system_written contents s h =
-    let small = small_space s.space (length h.independent) (length h.dependent) h.space (h.vars_is).some (h.vars_is).few (h.deps_is).some (h.deps_is).few in
-    let x : (s.space).p ≡ length h.independent = ap (λ (t : Space). t.p) h.space in
-    let y : (s.space).q ≡ length h.dependent = ap (λ (t : Space). t.q) h.space in
-    let l : length s.names ≡ length (h.independent ++ h.dependent) = ap length h.names in
-    let a = length-append h.independent h.dependent in
-    record { few = h.few; equations = equations_written s.space small s.names (omega arith) h.body s.equations h.body_is }
+    let n = well_named contents s h in
+    record { few = h.few; equations = equations_written s.space n.small s.names n.many h.body s.equations h.body_is }
 
 -- what is the file of a system has at most 16 equations in coordinates of orders up to 6
 pub file_is_written : (bytes : List ℕ) (s : SystemRead) → IsFile bytes s → AreWritten s.space s.equations

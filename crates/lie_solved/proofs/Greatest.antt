@@ -1,10 +1,10 @@
 -- The greatest derivative among coordinates, one coordinate after the other.
-use Rattle.std.specs.Prelude.{◌≡◌, ℕ, suc, ◌+◌, ◌<◌, ◌≤◌, ◌&&◌, ◌||◌, Bool, true, false, eqb, leb, ltb, List, [], ◌∷◌, ◌++◌, Option, Some, None, if◌then◌else◌}
+use Rattle.std.specs.Prelude.{◌≡◌, ℕ, ◌+◌, ◌≤◌, ◌&&◌, Bool, true, false, eqb, leb, ltb, List, [], ◌∷◌, ◌++◌, Some, None, if◌then◌else◌}
 use Rattle.std.proofs.Common.{refl, sym, ap, subst, ◌∙◌, arith, true≢false, Ordering, Less, Equal, Greater}
 use Rattle.std.specs.List.{AllByRecursion as Every, list_any}
 use Rattle.std.specs.Ordering.{is_gt, ordering_reverse}
-use Rattle.std.proofs.lemmas.Bool.{le-leb}
-use Rattle.std.proofs.lemmas.Bool.Decides.{leb_tells, nat_tests}
+use Rattle.std.proofs.lemmas.Bool.{eq-eqb, or_left, or_right, and_right}
+use Rattle.std.proofs.lemmas.Bool.Decides.{leb_tells}
 use Rattle.std.proofs.lemmas.Cmp.{upto, tied_itself}
 use Rattle.std.proofs.lemmas.List.Folds.{list_any-append}
 use Rattle.lie_geometry.specs.Coordinates.{Space, number, coordinate}
@@ -15,32 +15,16 @@ use Rattle.lie_jet.specs.Jets.{coordinate_of, IsJet, IsSmall}
 use Rattle.lie_jet.specs.declared.jet.Jet.{Jet}
 use Rattle.lie_solved.specs.Leads.{ranked}
 use Rattle.lie_solved.specs.Equations.{is_greater, IsGreatestOf, IsBest}
-use Rattle.lie_gram.proofs.PrintedVariables.{less_test}
 use Rattle.lie_ring.proofs.Fronts.{every-append}
 
 -- ---- tests
 ltb_leb : (a b : ℕ) → ltb a b ≡ true → leb b a ≡ false
 ltb_leb a b e = grind (arith, leb_tells)
 
-pub eqb_itself : (a : ℕ) → eqb a a ≡ true
-eqb_itself a = grind (arith, nat_tests)
-
-and_false : (a b : Bool) → b ≡ false → (a && b) ≡ false
-and_false true b e = e
-and_false false b e = refl
-
 reversed : (o : Ordering) → is_gt o ≡ true → is_gt (ordering_reverse o) ≡ false
 reversed Less e = absurd (true≢false (sym e))
 reversed Equal e = absurd (true≢false (sym e))
 reversed Greater e = refl
-
-pub found_left : (a b : Bool) → a ≡ true → (a || b) ≡ true
-found_left true b e = refl
-found_left false b e = absurd (true≢false (sym e))
-
-pub found_right : (a b : Bool) → b ≡ true → (a || b) ≡ true
-found_right true b e = refl
-found_right false b e = e
 
 -- ---- the order of derivatives
 rank_itself : (d : Ranked) → is_gt (degree_rank d d) ≡ false
@@ -62,7 +46,7 @@ module _ (S : Space) where
   kept_best ws w j e h = record {
     jet = h.jet;
     derivative = h.derivative;
-    occurs = list_any-append (λ v. eqb v (number S (coordinate_of S j))) ws (w ∷ []) ∙ found_left (list_any (λ v. eqb v (number S (coordinate_of S j))) ws) (list_any (λ v. eqb v (number S (coordinate_of S j))) (w ∷ [])) h.occurs;
+    occurs = list_any-append (λ v. eqb v (number S (coordinate_of S j))) ws (w ∷ []) ∙ or_left (list_any (λ v. eqb v (number S (coordinate_of S j))) ws) (list_any (λ v. eqb v (number S (coordinate_of S j))) (w ∷ [])) h.occurs;
     greatest = every-append (λ w. is_greater S j w ≡ false) ws (w ∷ []) h.greatest (e, tt);
   }
 
@@ -72,14 +56,14 @@ module _ (S : Space) where
     number_is = ap (number S) (sym is.1) ∙ (coordinate_is S small.some_p small.some_q w).1
 
     itself : is_greater S j w ≡ false
-    itself = and_false (leb (S.p + S.q) w) _ (ap (λ x. is_gt (degree_rank (ranked x) (ranked (coordinate_of S j)))) is.1 ∙ rank_itself (ranked (coordinate_of S j)))
+    itself = and_right (leb (S.p + S.q) w) _ (ap (λ x. is_gt (degree_rank (ranked x) (ranked (coordinate_of S j)))) is.1 ∙ rank_itself (ranked (coordinate_of S j)))
 
     new_best : (ws : List ℕ) → Every (λ v. is_greater S j v ≡ false) ws → IsGreatestOf S (ws ++ w ∷ []) j
     new_best ws h = record {
       jet = is.0;
       derivative = subst (λ v. S.p + S.q ≤ v) (sym number_is) high;
       occurs = list_any-append (λ v. eqb v (number S (coordinate_of S j))) ws (w ∷ [])
-          ∙ found_right (list_any (λ v. eqb v (number S (coordinate_of S j))) ws) (list_any (λ v. eqb v (number S (coordinate_of S j))) (w ∷ [])) (found_left (eqb w (number S (coordinate_of S j))) false (ap (eqb w) number_is ∙ eqb_itself w));
+          ∙ or_right (list_any (λ v. eqb v (number S (coordinate_of S j))) ws) (list_any (λ v. eqb v (number S (coordinate_of S j))) (w ∷ [])) (or_left (eqb w (number S (coordinate_of S j))) false (ap (eqb w) number_is ∙ eq-eqb w w refl));
       greatest = every-append (λ w. is_greater S j w ≡ false) ws (w ∷ []) h (itself, tt);
     }
 
@@ -99,4 +83,4 @@ module _ (S : Space) where
       where
         go : (b : Bool) → is_gt (degree_rank (ranked (coordinate_of S j)) (ranked (coordinate_of S k))) ≡ b → IsGreatestOf S (ws ++ w ∷ []) (if b then j else k)
         go true e = new_best ws (under k e ws h.greatest)
-        go false e = kept_best ws w k (and_false (leb (S.p + S.q) w) _ (ap (λ x. is_gt (degree_rank (ranked x) (ranked (coordinate_of S k)))) is.1 ∙ e)) h
+        go false e = kept_best ws w k (and_right (leb (S.p + S.q) w) _ (ap (λ x. is_gt (degree_rank (ranked x) (ranked (coordinate_of S k)))) is.1 ∙ e)) h

@@ -1,14 +1,16 @@
 -- The lead of an equation, from the greatest derivative among its variables.
-use Rattle.std.specs.Prelude.{◌≡◌, ℕ, ◌+◌, ◌<◌, ◌≤◌, ◌*◌, ◌&&◌, Bool, true, false, not, leb, ltb, List, ℤ, Some, None, IfSome}
-use Rattle.std.proofs.Common.{refl, sym, ap, subst, ◌∙◌, arith, true≢false, Greater, lit≤}
+use Rattle.std.specs.Prelude.{◌≡◌, ℕ, ◌+◌, ◌<◌, ◌≤◌, ◌&&◌, Bool, true, false, not, leb, ltb, List, ℤ, Some, None, IfSome}
+use Rattle.std.proofs.Common.{sym, ap, subst, ◌∙◌, arith, true≢false, Greater, lit≤}
 use Rattle.std.specs.List.{AllByRecursion as Every}
 use Rattle.std.specs.Ordering.{is_gt}
 use Rattle.std.proofs.lemmas.Bool.{le-leb}
 use Rattle.std.proofs.lemmas.Bool.Decides.{leb_tells}
+use Rattle.lie_gram.proofs.CanonicalLeads.{high_number}
+use Rattle.lie_ring.proofs.Fronts.{every-weaken}
 use Rattle.lie_math.specs.Monomial.{Monomial}
 use Rattle.lie_math.specs.Polynomial.{WholePolynomial}
-use Rattle.lie_geometry.specs.Coordinates.{Space, Coordinate, IsCoordinate, order_of, number, coordinate, coordinates_up_to, ways}
-use Rattle.lie_geometry.proofs.Numbers.{coordinate-number, ways_none, count_rises}
+use Rattle.lie_geometry.specs.Coordinates.{Space, Coordinate, order_of, number, coordinate, coordinates_up_to}
+use Rattle.lie_geometry.proofs.Numbers.{coordinate-number, count_rises}
 use Rattle.lie_geometry.proofs.NumberOrder.{order_below}
 use Rattle.lie_ring.specs.Rankings.{degree_rank}
 use Rattle.lie_jet.specs.Jets.{coordinate_of, IsJet, IsSmall}
@@ -17,7 +19,7 @@ use Rattle.lie_jet.proofs.NumberedJets.{is_coordinate}
 use Rattle.lie_gram.specs.Meaning.{EquationRead}
 use Rattle.lie_solved.specs.Leads.{Occurs, HasNoDerivative, IsLeadBy, IsGreatest, ranked}
 use Rattle.lie_solved.specs.Equations.{IsLow, IsWritten, IsGreatestOf, HasLead, is_greater, variables_of}
-use Rattle.lie_solved.proofs.Variables.{every_found, every_in, in_every, every_occurs, occurs_in, weaken}
+use Rattle.lie_solved.proofs.Variables.{every_found, every_in, in_every, every_occurs, occurs_in}
 
 less_true : (a b : ℕ) → ltb a b ≡ true → a < b
 less_true a b e = grind (arith, leb_tells)
@@ -30,36 +32,14 @@ module _ (S : Space) where
   pub variables_low : (e : EquationRead) → IsWritten S e → IsSmall S → (ts : List (Monomial × ℤ)) → (e.diff).list ≡ ts → Every (λ w. w < coordinates_up_to S 12) (variables_of ts)
   variables_low e h small ts is =
       subst (λ us. Every (λ w. w < coordinates_up_to S 12) (variables_of us)) is
-      (weaken (λ w. ltb w (coordinates_up_to S 6) ≡ true) (λ w. w < coordinates_up_to S 12)
+      (every-weaken (λ w. ltb w (coordinates_up_to S 6) ≡ true) (λ w. w < coordinates_up_to S 12)
       (λ w t. let l = less_true w (coordinates_up_to S 6) t in let m = count_rises S small.some_p small.some_q 6 12 (lit≤ tt) in omega arith)
       (variables_of (e.diff).list) (every_in (λ w. ltb w (coordinates_up_to S 6)) e.diff h.diff))
 
   pub none_is : (P : WholePolynomial) (ts : List (Monomial × ℤ)) → P.list ≡ ts → Every (λ w. ltb w (S.p + S.q) ≡ true) (variables_of ts) → HasNoDerivative S P
   none_is P ts is h = in_every (λ w. ltb w (S.p + S.q)) P (subst (λ us. Every (λ w. ltb w (S.p + S.q) ≡ true) (variables_of us)) (sym is) h)
 
-  -- ---- the numbers of derivatives
-  first_order : coordinates_up_to S 0 ≡ S.p + S.q
-  first_order = let h = ways_none S.p in go (ways S.p 0) h
-    where
-      go : (n : ℕ) → n ≡ 1 → S.p + S.q * (0 + n) ≡ S.p + S.q
-      go n e = ap (λ m. S.p + S.q * (0 + m)) e ∙ whole S.q
-        where
-          whole : (q : ℕ) → S.p + q * (0 + 1) ≡ S.p + q
-          whole q = omega arith
-
   module _ (small : IsSmall S) where
-    -- a coordinate of order 1 or more is a derivative
-    high_number : (c : Coordinate) → IsCoordinate S c → 1 ≤ order_of c → S.p + S.q ≤ number S c
-    high_number c is some = go (leb (S.p + S.q) (number S c)) refl
-      where
-        go : (b : Bool) → leb (S.p + S.q) (number S c) ≡ b → S.p + S.q ≤ number S c
-        go true e = grind (arith, leb_tells)
-        go false e =
-            let under : number S c < coordinates_up_to S 0 = rw first_order (let k : number S c < S.p + S.q = grind (arith, leb_tells) in k) in
-            let low : order_of (coordinate S (number S c)) ≤ 0 = (order_below S small.some_p small.some_q (number S c) 0).1 under in
-            let same = ap order_of (coordinate-number S small.some_p small.some_q c is) in
-            absurd (omega arith)
-
     -- ---- the greatest derivative
     module _ (e : EquationRead) (h : IsWritten S e) (ts : List (Monomial × ℤ)) (is : (e.diff).list ≡ ts) (j : Jet) (best : IsGreatestOf S (variables_of ts) j) where
       pub some_derivative : ¬ (HasNoDerivative S e.diff)
@@ -80,7 +60,7 @@ module _ (S : Space) where
       greatest_is = record {
         derivative = best.derivative;
         occurs = every_found (λ w. Occurs w e.diff) (variables_of ts) (number S (coordinate_of S j)) (subst (λ us. Every (λ w. Occurs w e.diff) (variables_of us)) is (every_occurs e.diff)) best.occurs;
-        greatest = λ v d o g. above v d (occurs_in (λ w. not (is_greater S j w)) e.diff (in_every (λ w. not (is_greater S j w)) e.diff (subst (λ us. Every (λ w. not (is_greater S j w) ≡ true) (variables_of us)) (sym is) (weaken (λ w. is_greater S j w ≡ false) (λ w. not (is_greater S j w) ≡ true) (λ w f. ap not f) (variables_of ts) best.greatest))) v o) g;
+        greatest = λ v d o g. above v d (occurs_in (λ w. not (is_greater S j w)) e.diff (in_every (λ w. not (is_greater S j w)) e.diff (subst (λ us. Every (λ w. not (is_greater S j w) ≡ true) (variables_of us)) (sym is) (every-weaken (λ w. is_greater S j w ≡ false) (λ w. not (is_greater S j w) ≡ true) (λ w f. ap not f) (variables_of ts) best.greatest))) v o) g;
       }
         where
           above : (v : ℕ) → S.p + S.q ≤ v → not (is_greater S j v) ≡ true → degree_rank (ranked (coordinate S v)) (ranked (coordinate S (number S (coordinate_of S j)))) ≡ Greater → ⊥
@@ -103,7 +83,7 @@ module _ (S : Space) where
       lead_given k c n jet same = record {
         some = some_derivative;
         jet = jet;
-        derivative = high_number (coordinate_of S k) (is_coordinate S small 6 k jet) (subst (λ d. 1 ≤ order_of d) (sym same) (low_lead c n).some);
+        derivative = high_number S small (coordinate_of S k) (is_coordinate S small 6 k jet) (subst (λ d. 1 ≤ order_of d) (sym same) (low_lead c n).some);
         lead = subst (λ o. IsLeadBy S o e.diff (number S (coordinate_of S k))) (sym n) (ap (number S) same);
       }
         where

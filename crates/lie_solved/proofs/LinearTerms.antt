@@ -1,16 +1,11 @@
 -- Polynomials that are a number times a variable and terms without it, by their terms.
-use Rattle.std.specs.Prelude.{◌≡◌, ℕ, ◌+◌, ◌<◌, Bool, true, false, cond, List, [], ◌∷◌, ◌++◌, length, take, get_or, ℤ, pos, ◌+ℤ◌, Option, Some, None, MatchOption}
-use Rattle.std.proofs.Common.{refl, sym, ap, subst, ◌∙◌, arith, add-one}
-use Rattle.std.proofs.Math.Seq.{take-suc}
+use Rattle.std.specs.Prelude.{◌≡◌, ℕ, ◌+◌, ◌<◌, cond, List, [], ◌∷◌, length, take, get_or, ℤ, pos, Option, Some, None, MatchOption}
+use Rattle.std.proofs.Common.{sym, ap, subst, ◌∙◌, arith}
 use Rattle.std.specs.List.{AllByRecursion as Every}
-use Rattle.std.specs.Ordering.{eq_by_cmp}
-use Rattle.lie_math.specs.SortedSum.{value_at}
-use Rattle.lie_math.specs.Integer.{coefficients}
-use Rattle.lie_math.specs.FiniteSum as finite
 use Rattle.lie_math.specs.FiniteSumLaws as finite_laws
-use Rattle.lie_math.specs.Monomial.{Monomial, monomial_cmp, exponent, powers, single}
+use Rattle.lie_math.specs.Monomial.{Monomial, exponent, powers, single}
 use Rattle.lie_math.specs.Polynomial.{WholePolynomial, terms, coefficient}
-use Rattle.lie_math.proofs.FiniteSum.{key, entries_of}
+use Rattle.lie_math.proofs.FiniteSum.{entries_of}
 use Rattle.lie_math.proofs.Monomial.{exponent-single, same_variable}
 use Rattle.lie_solved.specs.Leads.{IsLinearIn}
 use Rattle.lie_solved.specs.Equations.{IsLinearWith}

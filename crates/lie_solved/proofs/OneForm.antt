@@ -1,11 +1,11 @@
 -- A system has one solved form at most, and none where it is refused.
-use Rattle.std.specs.Prelude.{◌≡◌, ℕ, zero, suc, ◌+◌, ◌<◌, ◌≤◌, ◌⊎◌, ◌||◌, Bool, true, false, cond, ltb, eqb, T, List, [], ◌∷◌, ◌++◌, length, get_or, ℤ, pos, negsuc, ◌+ℤ◌, ◌*ℤ◌, Option, Some, None, AllPairs}
+use Rattle.std.specs.Prelude.{◌≡◌, ℕ, suc, ◌+◌, ◌<◌, ◌≤◌, ◌⊎◌, ◌||◌, Bool, true, false, cond, eqb, T, List, [], ◌∷◌, ◌++◌, length, get_or, ℤ, pos, negsuc, ◌+ℤ◌, ◌*ℤ◌, Option, Some, None, AllPairs}
 use Rattle.std.proofs.Common.{refl, sym, ap, ap₂, subst, ◌∙◌, arith, inl, inr, true≢false, eqb→eq, Ordering, Less, Equal, Greater}
 use borrow.Author.Differences.{ints}
 use Rattle.std.specs.List.{AllByRecursion as Every}
 use Rattle.std.specs.Ordering.{eq_by_cmp, ordering_reverse}
-use Rattle.std.proofs.lemmas.Bool.Decides.{leb_tells}
 use Rattle.std.proofs.lemmas.List.Elements.{recursion_from_All}
+use Rattle.lie_math.proofs.Integer.{zero_or_not}
 use Rattle.lie_math.specs.FiniteSumLaws.{ext, value-plus, value-term}
 use Rattle.lie_math.specs.Monomial.{Monomial, monomial_cmp, exponent, single}
 use Rattle.lie_math.specs.Polynomial.{WholePolynomial, terms, coefficient, constant, variable, ◌*ᴾ◌, negᴾ}
@@ -67,11 +67,6 @@ at_difference : (r : SolvedEquation) (m : Monomial) → coefficient (difference 
 at_difference r m =
     value-plus terms (constant r.factor *ᴾ variable r.lead) (negᴾ r.right) m
     ∙ ap₂ ◌+ℤ◌ (coefficient-constant_times r.factor (variable r.lead) m ∙ ap (λ z. r.factor *ℤ z) (value-term terms (single r.lead) (pos 1) m)) (coefficient-constant_times (negsuc 0) r.right m)
-
-zero_or_not : (z : ℤ) → (z ≡ pos 0) ⊎ ¬ (z ≡ pos 0)
-zero_or_not (pos zero) = inl refl
-zero_or_not (pos (suc n)) = inr (λ e. absurd (omega (arith, ints)))
-zero_or_not (negsuc n) = inr (λ e. absurd (omega (arith, ints)))
 
 -- a polynomial has nothing at a monomial with a variable that it is free of
 free_none : (w : ℕ) (p : WholePolynomial) → FreeOf w p → (m : Monomial) → ¬ (exponent m w ≡ 0) → coefficient p m ≡ pos 0

@@ -6,6 +6,7 @@ use Rattle.std.proofs.Math.Seq.{take-suc}
 use Rattle.std.specs.List.{AllByRecursion as Every}
 use Rattle.std.specs.Ordering.{eq_by_cmp}
 use Rattle.std.specs.declared.result.Result.{Result}
+use Rattle.lie_math.proofs.Integer.{zero_or_not}
 use Rattle.lie_math.specs.SortedSum.{value_at, below_all}
 use Rattle.lie_math.specs.Canonical.{both, first, second}
 use Rattle.lie_math.specs.Integer.{coefficients, is_zero_int}
@@ -25,9 +26,7 @@ use Rattle.lie_math.proofs.Monomial.{same_monomial}
 use Rattle.lie_math.proofs.Weighing.{coefficient-constant_times}
 use Rattle.lie_ring.specs.Causes.{IsCause}
 use Rattle.lie_ring.specs.Entries.{entries}
-use Rattle.lie_ring.specs.declared.failures.PastKind.TheVariants.{Coefficient, Exponent, Terms, Order, Unknowns, Width}
 use Rattle.lie_ring.specs.declared.failures.PolyFail.{PolyFail}
-use Rattle.lie_ring.specs.declared.failures.PolyFail.TheVariants.{Past, NoMemory}
 use Rattle.lie_poly.specs.Failures.{IsStarved}
 use Rattle.lie_geometry.specs.SolvedEquations.{SolvedEquation, difference}
 use Rattle.lie_solved.specs.Equations.{turned, rest_of, IsLinearWith}
@@ -153,11 +152,6 @@ free_rest w b P m n = go (eqb (exponent m w) 0) refl
 
 -- the coefficient of c times the variable minus the rest
 module _ (w : ℕ) (P : WholePolynomial) (c : ℤ) (h : IsLinearWith w P c) where
-  zero_or_not : (z : ℤ) → (z ≡ pos 0) ⊎ ¬ (z ≡ pos 0)
-  zero_or_not (pos zero) = inl refl
-  zero_or_not (pos (suc n)) = inr (λ e. absurd (omega (arith, ints)))
-  zero_or_not (negsuc n) = inr (λ e. absurd (omega (arith, ints)))
-
   -- what is left of the coefficient at m, by whether m is the variable and whether it has it
   elsewhere : (m : Monomial) → ¬ (exponent m w ≡ 0) → ¬ (m ≡ single w) → coefficient P m ≡ pos 0
   elsewhere m n s = go (zero_or_not (coefficient P m))

@@ -1,15 +1,14 @@
 -- The rules of a solved form: high leads, positive factors, and right sides of low orders.
 use Rattle.std.specs.Prelude.{◌≡◌, ℕ, suc, ◌+◌, ◌<◌, ◌≤◌, ◌⊎◌, Bool, List, [], ◌∷◌, length, pos, negsuc}
-use Rattle.std.proofs.Common.{refl, sym, subst, arith, inl, inr, lt-ltb}
+use Rattle.std.proofs.Common.{sym, subst, arith, inl, inr, lt-ltb}
 use Rattle.std.proofs.lemmas.List.{length-take-le}
 use Rattle.std.specs.List.{AllByRecursion as Every}
 use Rattle.std.proofs.lemmas.List.Elements.{All-from_recursion}
+use Rattle.lie_math.proofs.Differences.{less_difference}
 use Rattle.lie_math.specs.Derivation.{is_below}
-use Rattle.lie_math.specs.Polynomial.{WholePolynomial, 0ᴾ, constant, variable, ◌*ᴾ◌, ◌+ᴾ◌, negᴾ}
-use Rattle.lie_math.specs.PolynomialRing.{polynomial_ring}
+use Rattle.lie_math.specs.Polynomial.{WholePolynomial, constant, variable, ◌*ᴾ◌, ◌+ᴾ◌, negᴾ}
 use Rattle.lie_math.specs.Variables.{IsIn}
 use Rattle.lie_math.proofs.Variables.{in-+ᴾ, in-*ᴾ, in-constant, in-variable}
-use Rattle.lie_math.proofs.RingSolver.{v, ◌⊕◌, ⊖, solve, listed}
 use Rattle.lie_geometry.specs.Coordinates.{Space, number, coordinates_up_to, order_of}
 use Rattle.lie_geometry.specs.SolvedEquations.{SolvedEquation, difference}
 use Rattle.lie_geometry.proofs.Numbers.{coordinate-number}
@@ -37,7 +36,7 @@ module _ (S : Space) where
   positive_factors (e ∷ es) (r ∷ rs) h = (h.0.positive, positive_factors es rs h.1)
 
   -- ---- right sides
-  jet_low : (r : LeadRule) → IsJet S 6 r.lead → number S (coordinate_of S r.lead) < coordinates_up_to S 6
+  pub jet_low : (r : LeadRule) → IsJet S 6 r.lead → number S (coordinate_of S r.lead) < coordinates_up_to S 6
   jet_low r j =
       let four = j.four in
       let few = j.space.few_p in
@@ -54,13 +53,10 @@ module _ (S : Space) where
   low_difference e r w (inl is) = subst (IsIn low) (sym is) w.diff
   low_difference e r w (inr is) = subst (IsIn low) (sym is) (low_negative e.diff w.diff)
 
-  left_without : (a b : WholePolynomial) → a +ᴾ negᴾ (a +ᴾ negᴾ b) ≡ b
-  left_without a b = solve polynomial_ring (listed 0ᴾ (a ∷ b ∷ [])) (v 0 ⊕ ⊖ (v 0 ⊕ ⊖ (v 1))) (v 1) refl
-
   low_right : (e : EquationRead) (r : LeadRule) → IsWritten S e → IsJet S 6 r.lead → IsSolvedBy S e (solved_equation S r) → IsIn low r.right
   low_right e r w j s =
       let a : WholePolynomial = constant r.c *ᴾ variable (number S (coordinate_of S r.lead)) in
-      subst (IsIn low) (left_without a r.right)
+      subst (IsIn low) (less_difference a r.right)
       (in-+ᴾ low a (negᴾ (a +ᴾ negᴾ r.right))
       (in-*ᴾ low (constant r.c) (variable (number S (coordinate_of S r.lead))) (in-constant low r.c) (in-variable low (number S (coordinate_of S r.lead)) (lt-ltb (number S (coordinate_of S r.lead)) (coordinates_up_to S 6) (jet_low r j))))
       (low_negative (a +ᴾ negᴾ r.right) (low_difference e (solved_equation S r) w s.same)))

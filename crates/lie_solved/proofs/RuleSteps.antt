@@ -2,7 +2,7 @@
 use Rattle.std.specs.Prelude.{◌≡◌, ℕ, zero, suc, ◌+◌, ◌<◌, ◌≤◌, ◌||◌, Bool, true, false, not, eqb, List, [], ◌∷◌, ◌++◌, length, map, take, drop, get_or, ℤ, pos, negsuc, unsigned_abs}
 use Rattle.std.proofs.Common.{refl, sym, ap, subst, ◌∙◌, arith, add-one, true≢false}
 use Rattle.std.proofs.Math.Seq.{take-suc}
-use Rattle.std.proofs.lemmas.Bool.Decides.{nat_tests}
+use Rattle.std.proofs.lemmas.Bool.{eq-eqb, or_left, or_right, or_parts, or_from}
 use Rattle.std.proofs.lemmas.List.{length-map, length-take-le, map-append}
 use Rattle.std.proofs.lemmas.List.Elements.{All-from_recursion}
 use Rattle.std.proofs.lemmas.List.Quantifiers.{all_pairs_push}
@@ -27,7 +27,6 @@ use Rattle.lie_solved.specs.Equations.{IsWritten, IsRule, AreRules, HasLead, IsL
 use Rattle.lie_solved.specs.Causes.{IsRuleCause, failed_at}
 use Rattle.lie_solved.proofs.Variables.{in_every, every_in, variables_in_more, variables_of_more}
 use Rattle.lie_solved.proofs.OtherTerms.{free_rest, sides}
-use Rattle.lie_solved.proofs.Greatest.{found_left, found_right, eqb_itself}
 use Rattle.lie_ring.proofs.Fronts.{every-append}
 
 -- ---- one equation
@@ -64,27 +63,15 @@ cause_at S e (Not LeadRepeated) k h es rs at = absurd h
 cause_at S e (Not LeadInside) k h es rs at = absurd h
 cause_at S e NoMemory k h es rs at = tt
 
-or_false : (a b : Bool) → a ≡ false → b ≡ false → (a || b) ≡ false
-or_false true b e f = e
-or_false false b e f = f
-
-left_false : (a b : Bool) → (a || b) ≡ false → a ≡ false
-left_false true b e = e
-left_false false b e = refl
-
-right_false : (a b : Bool) → (a || b) ≡ false → b ≡ false
-right_false true b e = absurd (true≢false e)
-right_false false b e = e
-
 pub lead_at : (S : Space) (rules : List LeadRule) (i : ℕ) (r : LeadRule) → i < length rules → r ≡ get_or rules i r → is_lead (solved_equations S rules) (number S (coordinate_of S r.lead)) ≡ true
 lead_at S [] i r lt is = absurd (omega arith)
-lead_at S (x ∷ rules) zero r lt is = found_left _ _ (ap (λ (y : LeadRule). eqb (number S (coordinate_of S r.lead)) (number S (coordinate_of S y.lead))) (sym is) ∙ eqb_itself (number S (coordinate_of S r.lead)))
-lead_at S (x ∷ rules) (suc i) r lt is = found_right _ _ (lead_at S rules i r (omega arith) is)
+lead_at S (x ∷ rules) zero r lt is = or_left _ _ (ap (λ (y : LeadRule). eqb (number S (coordinate_of S r.lead)) (number S (coordinate_of S y.lead))) (sym is) ∙ eq-eqb (number S (coordinate_of S r.lead)) (number S (coordinate_of S r.lead)) refl)
+lead_at S (x ∷ rules) (suc i) r lt is = or_right _ _ (lead_at S rules i r (omega arith) is)
 
 not_lead_at : (rs : List SolvedEquation) (w k : ℕ) (d : SolvedEquation) → is_lead rs w ≡ false → k < length rs → ¬ ((get_or rs k d).lead ≡ w)
 not_lead_at [] w k d h lt e = absurd (omega arith)
-not_lead_at (r ∷ rs) w zero d h lt e = true≢false (sym (ap (eqb w) e ∙ eqb_itself w) ∙ left_false (eqb w r.lead) (is_lead rs w) h)
-not_lead_at (r ∷ rs) w (suc k) d h lt e = not_lead_at rs w k d (right_false (eqb w r.lead) (is_lead rs w) h) (omega arith) e
+not_lead_at (r ∷ rs) w zero d h lt e = true≢false (sym (ap (eqb w) e ∙ eq-eqb w w refl) ∙ (or_parts (eqb w r.lead) (is_lead rs w) h).0)
+not_lead_at (r ∷ rs) w (suc k) d h lt e = not_lead_at rs w k d (or_parts (eqb w r.lead) (is_lead rs w) h).1 (omega arith) e
 
 -- ---- lists up to a place
 module _ {X Y : Type 0} (f : X → Y) where
@@ -142,27 +129,27 @@ module _ (S : Space) where
 module _ (f : ℕ → Bool) where
   pub any_in_at : (ps : List (ℕ × ℕ)) (i : ℕ) (d : ℕ × ℕ) → i < length ps → f (get_or ps i d).0 ≡ true → list_any f (variables_in ps) ≡ true
   any_in_at [] i d lt e = absurd (omega arith)
-  any_in_at (p ∷ ps) zero d lt e = found_left (f p.0) (list_any f (variables_in ps)) e
-  any_in_at (p ∷ ps) (suc i) d lt e = found_right (f p.0) (list_any f (variables_in ps)) (any_in_at ps i d (omega arith) e)
+  any_in_at (p ∷ ps) zero d lt e = or_left (f p.0) (list_any f (variables_in ps)) e
+  any_in_at (p ∷ ps) (suc i) d lt e = or_right (f p.0) (list_any f (variables_in ps)) (any_in_at ps i d (omega arith) e)
 
   pub any_of_at : (ts : List (Monomial × ℤ)) (i : ℕ) (t : Monomial × ℤ) → i < length ts → t ≡ get_or ts i t → list_any f (variables_in (t.0).list) ≡ true → list_any f (variables_of ts) ≡ true
   any_of_at [] i t lt is e = absurd (omega arith)
-  any_of_at (u ∷ ts) zero t lt is e = list_any-append f (variables_in (u.0).list) (variables_of ts) ∙ found_left _ (list_any f (variables_of ts)) (ap (λ (x : Monomial × ℤ). list_any f (variables_in (x.0).list)) (sym is) ∙ e)
-  any_of_at (u ∷ ts) (suc i) t lt is e = list_any-append f (variables_in (u.0).list) (variables_of ts) ∙ found_right (list_any f (variables_in (u.0).list)) _ (any_of_at ts i t (omega arith) is e)
+  any_of_at (u ∷ ts) zero t lt is e = list_any-append f (variables_in (u.0).list) (variables_of ts) ∙ or_left _ (list_any f (variables_of ts)) (ap (λ (x : Monomial × ℤ). list_any f (variables_in (x.0).list)) (sym is) ∙ e)
+  any_of_at (u ∷ ts) (suc i) t lt is e = list_any-append f (variables_in (u.0).list) (variables_of ts) ∙ or_right (list_any f (variables_in (u.0).list)) _ (any_of_at ts i t (omega arith) is e)
 
   pub none_in_more : (ps : List (ℕ × ℕ)) (i : ℕ) (d : ℕ × ℕ) → i < length ps → list_any f (variables_in (take i ps)) ≡ false → f (get_or ps i d).0 ≡ false → list_any f (variables_in (take (i + 1) ps)) ≡ false
   none_in_more ps i d lt h e =
       ap (list_any f) (variables_in_more ps i d lt) ∙ list_any-append f (variables_in (take i ps)) ((get_or ps i d).0 ∷ [])
-      ∙ or_false (list_any f (variables_in (take i ps))) (list_any f ((get_or ps i d).0 ∷ [])) h (or_false (f (get_or ps i d).0) false e refl)
+      ∙ or_from (list_any f (variables_in (take i ps))) (list_any f ((get_or ps i d).0 ∷ [])) h (or_from (f (get_or ps i d).0) false e refl)
 
   pub none_of_more : (ts : List (Monomial × ℤ)) (i : ℕ) (t : Monomial × ℤ) → i < length ts → t ≡ get_or ts i t → list_any f (variables_of (take i ts)) ≡ false → list_any f (variables_in (t.0).list) ≡ false → list_any f (variables_of (take (i + 1) ts)) ≡ false
   none_of_more ts i t lt is h e =
       ap (list_any f) (variables_of_more ts i t lt is) ∙ list_any-append f (variables_of (take i ts)) (variables_in (t.0).list)
-      ∙ or_false (list_any f (variables_of (take i ts))) (list_any f (variables_in (t.0).list)) h e
+      ∙ or_from (list_any f (variables_of (take i ts))) (list_any f (variables_in (t.0).list)) h e
 
   none_every : (ws : List ℕ) → list_any f ws ≡ false → Every (λ w. not (f w) ≡ true) ws
   none_every [] h = tt
-  none_every (w ∷ ws) h = (ap not (left_false (f w) (list_any f ws) h), none_every ws (right_false (f w) (list_any f ws) h))
+  none_every (w ∷ ws) h = (ap not (or_parts (f w) (list_any f ws) h).0, none_every ws (or_parts (f w) (list_any f ws) h).1)
 
   some_not_every : (ws : List ℕ) → list_any f ws ≡ true → Every (λ w. not (f w) ≡ true) ws → ⊥
   some_not_every [] h k = absurd (true≢false (sym h))

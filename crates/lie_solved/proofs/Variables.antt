@@ -1,5 +1,5 @@
 -- The variables of the terms of a polynomial: those that occur in it.
-use Rattle.std.specs.Prelude.{◌≡◌, ℕ, zero, suc, ◌+◌, ◌<◌, ◌≤◌, ◌||◌, Bool, true, false, eqb, List, [], ◌∷◌, ◌++◌, length, take, get_or, ℤ, pos, T}
+use Rattle.std.specs.Prelude.{◌≡◌, ℕ, zero, suc, ◌+◌, ◌<◌, ◌||◌, Bool, true, false, eqb, List, [], ◌∷◌, ◌++◌, length, take, get_or, ℤ, pos, T}
 use Rattle.std.proofs.Common.{refl, sym, ap, subst, ◌∙◌, arith, eqb→eq, true≢false, add-one, append_assoc, append-nil}
 use Rattle.std.proofs.Math.Seq.{take-suc}
 use Rattle.std.specs.List.{AllByRecursion as Every, list_any}
@@ -9,21 +9,12 @@ use Rattle.lie_math.specs.Polynomial.{WholePolynomial, terms, coefficient}
 use Rattle.lie_math.specs.Variables.{IsIn}
 use Rattle.lie_math.proofs.FiniteSum.{entries_of}
 use Rattle.lie_math.proofs.Kept.{kept-terms, pairs_in, terms_in}
-use Rattle.lie_math.proofs.Variables.{kept_in}
+use Rattle.lie_math.proofs.Variables.{kept_in, T_of_true}
 use Rattle.lie_solved.specs.Leads.{Occurs}
 use Rattle.lie_solved.specs.Equations.{variables_in, variables_of}
-use Rattle.lie_ring.proofs.Fronts.{every-append}
+use Rattle.lie_ring.proofs.Fronts.{every-append, every-front, every-back, every-weaken}
 
 -- ---- lists
-module _ {X : Type 0} (Q : X → Type 0) where
-  pub every_front : (xs ys : List X) → Every Q (xs ++ ys) → Every Q xs
-  every_front [] ys h = tt
-  every_front (x ∷ xs) ys h = (h.0, every_front xs ys h.1)
-
-  pub every_back : (xs ys : List X) → Every Q (xs ++ ys) → Every Q ys
-  every_back [] ys h = h
-  every_back (x ∷ xs) ys h = every_back xs ys h.1
-
 pub every_found : (Q : ℕ → Type 0) (ws : List ℕ) (w : ℕ) → Every Q ws → list_any (λ v. eqb v w) ws ≡ true → Q w
 every_found Q [] w h k = absurd (true≢false (sym k))
 every_found Q (v ∷ ws) w h k = go (eqb v w) refl k (every_found Q ws w h.1)
@@ -55,29 +46,22 @@ occurs_in f P h w o = go (f w) refl
     go true e = refl
     go false e = absurd (o.2 (h w e o.0 o.1))
 
-pub weaken : {X : Type 0} (Q R : X → Type 0) → ((x : X) → Q x → R x) → (xs : List X) → Every Q xs → Every R xs
-weaken Q R f [] h = tt
-weaken Q R f (x ∷ xs) h = (f x h.0, weaken Q R f xs h.1)
-
 pub every_in : (f : ℕ → Bool) (P : WholePolynomial) → IsIn f P → Every (λ w. f w ≡ true) (variables_of P.list)
-every_in f P h = weaken (λ w. Occurs w P) (λ w. f w ≡ true) (occurs_in f P h) (variables_of P.list) (every_occurs P)
+every_in f P h = every-weaken (λ w. Occurs w P) (λ w. f w ≡ true) (occurs_in f P h) (variables_of P.list) (every_occurs P)
 
 pub in_every : (f : ℕ → Bool) (P : WholePolynomial) → Every (λ w. f w ≡ true) (variables_of P.list) → IsIn f P
 in_every f P h = kept_in f P (kept-terms f P (listed P.list h))
   where
-    T_of : (b : Bool) → b ≡ true → T b
-    T_of b e = subst T (sym e) tt
-
     factors : (ps : List (ℕ × ℕ)) → Every (λ w. f w ≡ true) (variables_in ps) → T (pairs_in f ps)
     factors [] h = tt
-    factors (p ∷ ps) h = both (f p.0) (pairs_in f ps) (T_of (f p.0) h.0) (factors ps h.1)
+    factors (p ∷ ps) h = both (f p.0) (pairs_in f ps) (T_of_true (f p.0) h.0) (factors ps h.1)
 
     listed : (ts : List (Monomial × ℤ)) → Every (λ w. f w ≡ true) (variables_of ts) → T (terms_in f ts)
     listed [] h = tt
     listed (t ∷ ts) h =
         both (pairs_in f (t.0).list) (terms_in f ts)
-        (factors (t.0).list (every_front (λ w. f w ≡ true) (variables_in (t.0).list) (variables_of ts) h))
-        (listed ts (every_back (λ w. f w ≡ true) (variables_in (t.0).list) (variables_of ts) h))
+        (factors (t.0).list (every-front (λ w. f w ≡ true) (variables_in (t.0).list) (variables_of ts) h))
+        (listed ts (every-back (λ w. f w ≡ true) (variables_in (t.0).list) (variables_of ts) h))
 
 -- ---- one more
 variables_in-append : (ps qs : List (ℕ × ℕ)) → variables_in (ps ++ qs) ≡ variables_in ps ++ variables_in qs
@@ -103,5 +87,5 @@ variable_at Q (q ∷ ps) (suc i) d lt h = variable_at Q ps i d (omega arith) h.1
 
 pub variables_at : (Q : ℕ → Type 0) (ts : List (Monomial × ℤ)) (i : ℕ) (t : Monomial × ℤ) → i < length ts → t ≡ get_or ts i t → Every Q (variables_of ts) → Every Q (variables_in (t.0).list)
 variables_at Q [] i t lt is h = absurd (omega arith)
-variables_at Q (u ∷ ts) zero t lt is h = subst (λ (x : Monomial × ℤ). Every Q (variables_in (x.0).list)) (sym is) (every_front Q (variables_in (u.0).list) (variables_of ts) h)
-variables_at Q (u ∷ ts) (suc i) t lt is h = variables_at Q ts i t (omega arith) is (every_back Q (variables_in (u.0).list) (variables_of ts) h)
+variables_at Q (u ∷ ts) zero t lt is h = subst (λ (x : Monomial × ℤ). Every Q (variables_in (x.0).list)) (sym is) (every-front Q (variables_in (u.0).list) (variables_of ts) h)
+variables_at Q (u ∷ ts) (suc i) t lt is h = variables_at Q ts i t (omega arith) is (every-back Q (variables_in (u.0).list) (variables_of ts) h)

@@ -119,10 +119,7 @@ module _ (ts us : List Triple) (f : First ts) (same : ts ≡ map (times_triple (
           go_size (suc n) e = omega arith
 
       go : (vs : List Triple) → f.head ∷ f.rest ≡ map (times_triple (common_monomial ts) (signed_content ts)) vs → IsFirstPositive vs
-      go [] e = absurd (no_cons e)
-        where
-          no_cons : {x : Triple} {xs : List Triple} → x ∷ xs ≡ [] → ⊥
-          no_cons h = subst (λ ys. T (not (finite.list_is_empty ys))) h tt
+      go [] e = absurd (cc)
       go (v ∷ vs) e =
           let q = positive (unsigned_abs f.head.2) size_positive (content_divides_head ts f) in
           let numbers : f.head.2 ≡ signed_content ts *ℤ v.2 = ap (λ (ws : List Triple). number_of ws) e in

@@ -161,10 +161,7 @@ none_alone E is = ap (λ xs. primitive_of xs (triples E)) is
 
 -- a form in two derivatives or more is a term times its normalised equation
 term_times_primitive : (E : LinearForm) (e f : Derivative × WholePolynomial) (es : List (Derivative × WholePolynomial)) → E.list ≡ e ∷ f ∷ es → times_form (term (common_monomial (triples E)) (signed_content (triples E))) (primitive E) ≡ E
-term_times_primitive E e f es is = ap (times_form (term (common_monomial (triples E)) (signed_content (triples E)))) (two_derivatives E e f es is) ∙ times-primitive_part (triples E) ∙ sym_of E
-  where
-    sym_of : (E : LinearForm) → sum_of_triples (triples E) ≡ E
-    sym_of E = sum_of_triples-triples E
+term_times_primitive E e f es is = ap (times_form (term (common_monomial (triples E)) (signed_content (triples E)))) (two_derivatives E e f es is) ∙ times-primitive_part (triples E) ∙ sum_of_triples-triples E
 
 something : (E : LinearForm) (e : Derivative × WholePolynomial) (es : List (Derivative × WholePolynomial)) → E.list ≡ e ∷ es → ¬ (E ≡ no_form)
 unfolding finite.none finite.of

@@ -4,7 +4,7 @@ use Rattle.std.proofs.lemmas.Grind.{common_steps}
 use Rattle.std.proofs.lemmas.Result.{err_from_is_err_and}
 use Rattle.lie_solved.specs.SolvedForms.{solved_equations}
 use Rattle.lie_systems.specs.Bulk.{IsWithinLimits}
-use Rattle.lie_jet.proofs.FormCauses.{every_append}
+use Rattle.lie_ring.proofs.Fronts.{every-append}
 use Rattle.lie_invar.specs.Reductions.{CanReduce}
 use Rattle.lie_invar.proofs.ReducedForms.{can_reduce}
 use Rattle.lie_invar.proofs.ConditionSteps.{coefficient_cause, place_cause, made_more, done_more, all_done}
@@ -29,7 +29,7 @@ loop-place-preserved c =
     record {
       made = made_more c.args.space c.args.rules.now c.loop-place.place c.loop-place.made.items c.push.new.self.items c.in_ok-next.next c.loop-place-test.true c.loop-place.invariant.made pushed c.in_ok-next.ensures.value;
       done = done_more c.args.space c.args.rules.now c.loop-place.place c.loop-place.invariant.done c.in_ok-next.ensures.fits;
-      within = subst (Every IsWithinLimits) (sym pushed) (every_append IsWithinLimits c.loop-place.made.items (c.in_ok-next.next ∷ []) c.loop-place.invariant.within (c.in_ok-next.ensures.within, tt));
+      within = subst (Every IsWithinLimits) (sym pushed) (every-append IsWithinLimits c.loop-place.made.items (c.in_ok-next.next ∷ []) c.loop-place.invariant.within (c.in_ok-next.ensures.within, tt));
     }
 
 pub returns-clause-fits : goal.returns-clause-fits

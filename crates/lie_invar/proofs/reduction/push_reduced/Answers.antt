@@ -1,10 +1,11 @@
 use Rattle.std.proofs.Common.{refl, ap, sym, ◌∙◌, true≢false}
 use Rattle.std.proofs.lemmas.Result.{err_from_is_err_and}
+use Rattle.lie_jet.proofs.TotalSteps.{on_ok}
 use Rattle.lie_math.specs.Limits.{absolute}
 use Rattle.lie_math.specs.Polynomial.{◌+ᴾ◌}
 use Rattle.lie_jet.specs.Listed.{sum_listed, bulk_listed}
 use Rattle.lie_solved.specs.SolvedForms.{solved_equations}
-use Rattle.lie_invar.proofs.ReductionSteps.{removed_sum, removed_bulk, made_term, multiple_cause, product_term_cause, multiple_apart, on_made}
+use Rattle.lie_invar.proofs.ReductionSteps.{removed_sum, removed_bulk, made_term, multiple_cause, product_term_cause, multiple_apart}
 use Rattle.lie_invar.proofs.reduction.push_reduced.Goals as goal
 
 pub returns-then-has_removed-clause-sum : goal.returns-then-has_removed-clause-sum
@@ -31,8 +32,8 @@ returns-in_err-product-clause-past c = λ e h.
 
 pub returns-clause-sum : goal.returns-clause-sum
 returns-clause-sum c = λ e h.
-    on_made c.push_terms.result (λ s. s ∙ ap (λ x. sum_listed c.args.made.now.items +ᴾ x) (made_term (solved_equations c.args.space c.args.rules.now) e c.args.term.now.0 c.args.term.now.1 c.in_ok-number.number c.in_ok-multiple.multiple c.in_ok-product.product c.pairs-2.result.now c.pairs-2.ensures c.in_ok-number.ensures.constant (c.in_ok-multiple.ensures.product e h) c.in_ok-product.ensures.product)) c.push_terms.ensures.sum
+    on_ok c.push_terms.result (λ s. s ∙ ap (λ x. sum_listed c.args.made.now.items +ᴾ x) (made_term (solved_equations c.args.space c.args.rules.now) e c.args.term.now.0 c.args.term.now.1 c.in_ok-number.number c.in_ok-multiple.multiple c.in_ok-product.product c.pairs-2.result.now c.pairs-2.ensures c.in_ok-number.ensures.constant (c.in_ok-multiple.ensures.product e h) c.in_ok-product.ensures.product)) c.push_terms.ensures.sum
 
 pub returns-clause-bulk : goal.returns-clause-bulk
 returns-clause-bulk c = λ e h.
-    on_made c.push_terms.result (λ s. s ∙ ap (λ x. bulk_listed c.args.made.now.items +ᴾ absolute x) (made_term (solved_equations c.args.space c.args.rules.now) e c.args.term.now.0 c.args.term.now.1 c.in_ok-number.number c.in_ok-multiple.multiple c.in_ok-product.product c.pairs-2.result.now c.pairs-2.ensures c.in_ok-number.ensures.constant (c.in_ok-multiple.ensures.product e h) c.in_ok-product.ensures.product)) c.push_terms.ensures.bulk
+    on_ok c.push_terms.result (λ s. s ∙ ap (λ x. bulk_listed c.args.made.now.items +ᴾ absolute x) (made_term (solved_equations c.args.space c.args.rules.now) e c.args.term.now.0 c.args.term.now.1 c.in_ok-number.number c.in_ok-multiple.multiple c.in_ok-product.product c.pairs-2.result.now c.pairs-2.ensures c.in_ok-number.ensures.constant (c.in_ok-multiple.ensures.product e h) c.in_ok-product.ensures.product)) c.push_terms.ensures.bulk

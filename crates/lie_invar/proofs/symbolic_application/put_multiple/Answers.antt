@@ -6,7 +6,7 @@ use Rattle.lie_math.specs.PartialDerivative.{partial}
 use Rattle.lie_math.specs.Polynomial.{WholePolynomial}
 use Rattle.lie_jet.specs.Derivatives.{derivative_of, derivative_terms}
 use Rattle.lie_jet.specs.declared.derivative.Der.{Der}
-use Rattle.lie_jet.proofs.DerivativeLists.{length_map}
+use Rattle.std.proofs.lemmas.List.{length-map}
 use Rattle.lie_jet.proofs.TotalSteps.{if_err}
 use Rattle.lie_invar.specs.Applications.{sides}
 use Rattle.lie_ring.specs.Causes.{IsCause}
@@ -15,7 +15,7 @@ use Rattle.lie_invar.proofs.AppliedForms.{no_products, slope_cause, same_slope}
 use Rattle.lie_invar.proofs.symbolic_application.put_multiple.Goals as goal
 
 same_length : (ts : List (Der × WholePolynomial)) (es : List (Derivative × WholePolynomial)) → derivative_terms ts ≡ es → length es ≡ length ts
-same_length ts es all = ap length (sym all) ∙ length_map (λ (t : Der × WholePolynomial). (derivative_of t.0, t.1)) ts
+same_length ts es all = ap length (sym all) ∙ length-map ts (λ (t : Der × WholePolynomial). (derivative_of t.0, t.1))
 
 pub returns-then-terms-eq0-clause-sum : goal.returns-then-terms-eq0-clause-sum
 returns-then-terms-eq0-clause-sum c = no_products c.args.sum.now c.args.form.now (partial c.args.w (sides c.args.lead c.args.rule.now.c c.args.sign c.args.rule.now.right)) (same_length c.terms.result.now c.args.form.now.list c.terms.ensures ∙ c.if-terms-eq0.true)

@@ -8,7 +8,8 @@ use Rattle.lie_jet.specs.Derivatives.{derivative_of, derivative_terms, GoesTo, G
 use Rattle.lie_jet.specs.declared.derivative.Der.{Der}
 use Rattle.lie_jet.proofs.AbsentDerivatives.{no_coefficient, within_beside_none}
 use Rattle.lie_jet.proofs.TotalSteps.{on_ok, if_err}
-use Rattle.lie_jet.proofs.DerivativeLists.{added_at_first, coefficient_at_first, length_map}
+use Rattle.std.proofs.lemmas.List.{length-map}
+use Rattle.lie_jet.proofs.DerivativeLists.{added_at_first, coefficient_at_first}
 use Rattle.lie_jet.proofs.form.put_term.Goals as goal
 use Rattle.lie_jet.proofs.form.put_term.Goals.{After-add_at_place, After-insert_term}
 
@@ -38,7 +39,7 @@ none c =
     let i = c.place_of-place.result in
     let within : i ≤ length c.args.terms.now.items = subst (λ (xs : List (Der × WholePolynomial)). i ≤ length xs) c.as_slice.ensures.value c.place_of-place.ensures.inside in
     no_coefficient d (derivative_terms c.args.terms.now.items) i c.requires
-    (subst (λ n. i ≤ n) (sym (length_map (λ (t : Der × WholePolynomial). (derivative_of t.0, t.1)) c.args.terms.now.items)) within)
+    (subst (λ n. i ≤ n) (sym (length-map c.args.terms.now.items (λ (t : Der × WholePolynomial). (derivative_of t.0, t.1)))) within)
     (λ a. subst (λ (xs : List (Der × WholePolynomial)). GoesTo d a (derivative_terms xs) i) c.as_slice.ensures.value (c.place_of-place.ensures.before a))
     (subst (λ (xs : List (Der × WholePolynomial)). GoesNoFurther d (drop i (derivative_terms xs))) c.as_slice.ensures.value c.place_of-place.ensures.stop)
     (λ h. true≢false (sym (c.if-is_at.ensures.1 (subst (λ (xs : List (Der × WholePolynomial)). IsFirst d (drop i (derivative_terms xs))) (sym c.as_slice-2.ensures.value) h))))

@@ -7,7 +7,7 @@ use Rattle.lie_jet.specs.Derivatives.{derivative_of, derivative_terms}
 use Rattle.lie_jet.specs.FormTotals.{total_of_term}
 use Rattle.lie_jet.specs.Jets.{IsSmall}
 use Rattle.lie_jet.specs.declared.derivative.Der.{Der}
-use Rattle.lie_jet.proofs.DerivativeLists.{length_map}
+use Rattle.std.proofs.lemmas.List.{length-map}
 use Rattle.lie_jet.proofs.FormBounds.{over_entries}
 use Rattle.lie_jet.proofs.FormSteps.{entry_low, entry_cause, entries_step, total_is}
 use Rattle.lie_jet.proofs.form_totals.sum_of_totals.Goals as goal
@@ -41,7 +41,7 @@ loop-term-preserved c =
     ∙ sym (entries_step (total_of_term c.args.space c.args.i) c.terms-term-items.result.now c.loop-term.term-index c.term-item.result c.loop-term-test.true c.term-item.is)
 
 all : (ts : List (Der × WholePolynomial)) (k : ℕ) → length ts ≤ k → take k (derivative_terms ts) ≡ derivative_terms ts
-all ts k h = all_taken (derivative_terms ts) k (subst (λ n. n ≤ k) (sym (length_map (λ (t : Der × WholePolynomial). (derivative_of t.0, t.1)) ts)) h)
+all ts k h = all_taken (derivative_terms ts) k (subst (λ n. n ≤ k) (sym (length-map ts (λ (t : Der × WholePolynomial). (derivative_of t.0, t.1)))) h)
 
 pub returns-clause-total : goal.returns-clause-total
 returns-clause-total c =

@@ -1,6 +1,7 @@
 use Rattle.std.proofs.Common.{arith}
 use Rattle.lie_lin.specs.Forms.{triples_of}
-use Rattle.lie_lin.proofs.Steps.{sum_step, count_step, within_step, cause_at, many_at, within_at}
+use Rattle.lie_lin.proofs.FormLimits.{cause_of_part}
+use Rattle.lie_lin.proofs.Steps.{sum_step, count_step, within_step, many_at, within_at}
 use Rattle.lie_lin.proofs.sum.coefficients.Goals as goal
 
 pub loop-der-preserved : goal.loop-der-preserved
@@ -12,7 +13,7 @@ loop-der-preserved c = record {
 }
 
 pub returns-in-Err-clause-past : goal.returns-in-Err-clause-past
-returns-in-Err-clause-past c = cause_at c.args.ders.now (triples_of c.args.list.now) c.requires c.loop-der.der-index _ (omega arith) c.in-Err.fail c.in-Err.ensures.past
+returns-in-Err-clause-past c = cause_of_part _ (triples_of c.args.list.now) c.in-Err.fail c.in-Err.ensures.past
 
 pub returns-then-count-gt-MAX_TRIPLES-clause-past : goal.returns-then-count-gt-MAX_TRIPLES-clause-past
 returns-then-count-gt-MAX_TRIPLES-clause-past c = many_at c.args.ders.now (triples_of c.args.list.now) c.requires c.loop-der.der-index c.loop-der.count (omega arith) c.loop-der.invariant.count (omega arith)

@@ -1,7 +1,8 @@
 use Rattle.std.proofs.Common.{sym, subst, arith, reverse, Less, Greater, Equal}
+use Rattle.std.proofs.lemmas.List.{nil_from_length}
 use Rattle.std.proofs.lemmas.Result.{err_from_is_err_and}
 use Rattle.lie_poly.proofs.MergeSteps.{State, state_start, full_cause, wide_cause}
-use Rattle.lie_poly.proofs.MergeTurns.{same_firsts, turn_less, stop_less, turn_greater, stop_greater, stop_wide, turn_equal, stop_equal, turns_end, no_items}
+use Rattle.lie_poly.proofs.MergeTurns.{same_firsts, turn_less, stop_less, turn_greater, stop_greater, stop_wide, turn_equal, stop_equal, turns_end}
 use Rattle.lie_poly.proofs.merge.merge.Goals as goal
 
 pub loop-right-init : goal.loop-right-init
@@ -70,4 +71,4 @@ returns-in_err-push-in-Equal-clause-past g c =
 
 pub returns-clause-sum : goal.returns-clause-sum
 returns-clause-sum g c =
-    turns_end g.C.Ring.value c.loop-right.out.items c.loop-right.left.items c.loop-right.right.items _ _ c.loop-right.invariant c.reverse.new.self.items (no_items _ (omega arith)) (no_items _ (omega arith)) c.reverse.ensures.items
+    turns_end g.C.Ring.value c.loop-right.out.items c.loop-right.left.items c.loop-right.right.items _ _ c.loop-right.invariant c.reverse.new.self.items (nil_from_length _ (omega arith)) (nil_from_length _ (omega arith)) c.reverse.ensures.items

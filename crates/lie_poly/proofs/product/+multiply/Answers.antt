@@ -1,4 +1,5 @@
 use Rattle.std.proofs.Common.{◌/◌, ℕ, subst, subst₂, sym, arith, length, reverse}
+use Rattle.std.proofs.lemmas.List.{nil_from_length}
 use Rattle.std.proofs.lemmas.Result.{err_from_is_err_and, IfOk-weaker, IfErr-weaker}
 use Rattle.lie_math.specs.Polynomial.{polynomial_of, ◌*ᴾ◌}
 use Rattle.lie_math.specs.Limits.{absolutes}
@@ -7,13 +8,12 @@ use Rattle.lie_ring.specs.Entries.{entries}
 use Rattle.lie_poly.specs.Tallies.{Tells}
 use Rattle.lie_poly.proofs.SumSteps.{cause_covered, tells_same, joined_sum, joined_bulk, one_entry}
 use Rattle.lie_poly.proofs.TimesSteps.{halves_product, halves_product_bulk, lower_product_covered, upper_product_covered, product_none, single_product, single_bulk}
-use Rattle.lie_poly.proofs.MergeTurns.{no_items}
 use Rattle.lie_poly.proofs.product.+multiply.Goals as goal
 
 pub returns-then-left-eq0-clause-product : goal.returns-then-left-eq0-clause-product
 returns-then-left-eq0-clause-product g t c =
     let value = g.C.Ring.value in
-    let none = no_items c.args.left.now (omega arith) in
+    let none = nil_from_length c.args.left.now (omega arith) in
     subst₂ (λ xs ls. Tells value (reverse xs) (polynomial_of (entries value ls) *ᴾ polynomial_of (entries value c.args.right.now)) (polynomial_of (absolutes (entries value ls)) *ᴾ polynomial_of (absolutes (entries value c.args.right.now)))) (sym c.new.ensures.items) (sym none)
     (product_none value (entries value c.args.right.now))
 

@@ -1,9 +1,10 @@
 use Rattle.std.proofs.Common.{◌≡◌, ◌≤◌, sym, subst, ◌∙◌, arith, length, take}
+use Rattle.std.proofs.lemmas.List.{length-take-le}
 use Rattle.std.proofs.lemmas.Result.{err_from_is_err_and}
 use Rattle.lie_ring.specs.Entries.{entries}
 use Rattle.lie_poly.proofs.SumSteps.{from_empty}
 use Rattle.lie_poly.proofs.TermLists.{entries_more, length-entries}
-use Rattle.lie_poly.proofs.TimesSteps.{Multiplied, multiplied_start, multiplied_length, multiplied_more, multiplied_end, times_zero, factor_cause, never_full, length-take_in}
+use Rattle.lie_poly.proofs.TimesSteps.{Multiplied, multiplied_start, multiplied_length, multiplied_more, multiplied_end, times_zero, factor_cause, never_full}
 use Rattle.lie_poly.proofs.product.times_term.Goals as goal
 use Rattle.lie_ring.proofs.Fronts.{all_taken}
 
@@ -27,7 +28,7 @@ returns-in_err-push-clause-past g c =
     let many : length (entries value c.args.terms.now) ≤ 1000000 = c.requires.few in
     let here : length c.loop-factor.out.items ≡ length (entries value (take c.loop-factor.factor-index c.args.terms.now)) = multiplied_length value c.args.mono.now (value c.args.c.now) _ c.loop-factor.out.items c.loop-factor.invariant in
     rw (p.1, p.2)
-    (never_full _ (length c.loop-factor.out.items) _ (omega (arith, length-entries value c.args.terms.now, length-entries value (take c.loop-factor.factor-index c.args.terms.now), length-take_in c.args.terms.now c.loop-factor.factor-index (omega arith))) c.in_err-push.ensures.full)
+    (never_full _ (length c.loop-factor.out.items) _ (omega (arith, length-entries value c.args.terms.now, length-entries value (take c.loop-factor.factor-index c.args.terms.now), length-take-le c.loop-factor.factor-index c.args.terms.now (omega arith))) c.in_err-push.ensures.full)
 
 pub loop-factor-preserved : goal.loop-factor-preserved
 loop-factor-preserved g c =

@@ -9,7 +9,7 @@ use Rattle.lie_geometry.specs.Prolongation.{coefficient_at, total_derivative}
 use Rattle.lie_ring.specs.Causes.{IsCause}
 use Rattle.lie_jet.specs.Jets.{coordinate_of}
 use Rattle.lie_prolong.specs.Lowered.{IsLowered}
-use Rattle.lie_prolong.proofs.Recursion.{lowered_number, value_read, low_coefficient, coefficient_stepped, bulk_stepped, coefficient_first}
+use Rattle.lie_prolong.proofs.Recursion.{lowered_before, value_read, low_coefficient, coefficient_stepped, bulk_stepped, coefficient_first}
 use Rattle.lie_prolong.proofs.Absolutes.{component_in_z}
 use Rattle.lie_prolong.proofs.Multiples.{component_read}
 use Rattle.lie_jet.proofs.TotalSteps.{on_ok, if_err}
@@ -20,7 +20,7 @@ use Rattle.lie_prolong.proofs.coefficient.coefficient.Goals as goal
 use Rattle.lie_prolong.proofs.coefficient.coefficient.Goals.{After-from}
 
 low_number : (c : After-from) → number c.args.space (coordinate_of c.args.space c.in-Some.lower) < c.args.space.p + length c.args.before.now
-low_number c = subst (λ n. number c.args.space (coordinate_of c.args.space c.in-Some.lower) < n) c.requires.next (lowered_number c.args.space c.args.jet.now c.in-Some.lower c.in-Some.k c.requires.jet c.in-Some.ensures)
+low_number c = lowered_before c.args.space c.args.jet.now c.in-Some.lower c.in-Some.k (length c.args.before.now) c.requires.jet c.in-Some.ensures c.requires.next
 
 p_is : (c : After-from) → c.from.result ≡ c.args.space.p
 p_is c = c.from.ensures ∙ ap (λ (s : Space). s.p) c.space.view_is

@@ -1,34 +1,26 @@
-use Rattle.std.proofs.Common.{ℕ, ap, arith, sym, subst, ◌∙◌, ◌≡◌, ◌<◌, ◌+◌, ◌++◌, ◌∷◌, [], List, map, length, take, get_or}
+use Rattle.std.proofs.Common.{ap, arith, sym, subst, ◌∙◌, ◌≡◌, ◌+◌, ◌++◌, ◌∷◌, [], map, length, get_or}
 use Rattle.std.proofs.lemmas.Result.{err_from_is_err_and}
 use Rattle.lie_math.specs.Limits.{IsWithinLimits}
 use Rattle.lie_math.specs.Polynomial.{WholePolynomial}
 use Rattle.lie_math.specs.VectorField.{component}
-use Rattle.lie_geometry.specs.Coordinates.{Space}
 use Rattle.lie_geometry.specs.Prolongation.{coefficient_at}
 use Rattle.lie_ring.specs.Causes.{IsCause}
-use Rattle.lie_poly.proofs.TimesSteps.{length-take_in}
 use Rattle.lie_jet.specs.Jets.{IsSmall}
 use Rattle.lie_jet.specs.declared.jet.Jet.{Jet}
 use Rattle.lie_prolong.specs.Bulks.{bulk_at}
 use Rattle.lie_prolong.specs.JetLists.{AreJetsUpTo}
-use Rattle.lie_prolong.proofs.JetLists.{number_at, values_more, values_all, holds_more, holds_all, fails_first, fails_at_once}
+use Rattle.lie_prolong.proofs.JetLists.{values_counted, number_at, values_more, values_all, holds_more, holds_all, fails_first, fails_at_once}
 use Rattle.std.proofs.lemmas.Grind.{common_steps}
-use Rattle.std.proofs.lemmas.List.{map_push, length-map, take_more}
+use Rattle.std.proofs.lemmas.List.{map_push, take_more}
 use Rattle.lie_prolong.proofs.field.prolong_field.Goals as goal
 use Rattle.lie_prolong.proofs.field.prolong_field.Goals.{After-space, After-deref-jet-items}
 use Rattle.lie_ring.proofs.Fronts.{all_taken}
 
 small : (c : After-space) → IsSmall c.args.space
-small c =
-    let p : c.space.inside.p ≡ c.args.space.p = ap (λ (s : Space). s.p) c.space.view_is in
-    let q : c.space.inside.q ≡ c.args.space.q = ap (λ (s : Space). s.q) c.space.view_is in
-    record { some_p = omega arith; few_p = omega arith; some_q = omega arith; few_q = omega arith }
+small c = subst IsSmall c.space.view_is (record { some_p = omega arith; few_p = omega arith; some_q = omega arith; few_q = omega arith })
 
 jets : (c : After-deref-jet-items) → AreJetsUpTo c.args.space c.args.order c.deref-jet-items.result.now
 jets c = subst (AreJetsUpTo c.args.space c.args.order) (sym c.deref-jet-items.ensures.value) c.in-Ok.ensures
-
-counted : (made : List (Jet × WholePolynomial)) (js : List Jet) (i : ℕ) → map (λ v. v.0) made ≡ take i js → i < length js → length made ≡ i
-counted made js i e h = sym (length-map made (λ (v : Jet × WholePolynomial). v.0)) ∙ ap length e ∙ length-take_in js i (omega arith)
 
 pub returns-in-Err-clause-past : goal.returns-in-Err-clause-past
 returns-in-Err-clause-past c = fails_at_once c.args.space c.args.order _ _ (small (goal.at.returns-in-Err-clause-past c).After-space) (λ _. tt)
@@ -43,7 +35,7 @@ pub coefficient-requires-clause-next : goal.coefficient-requires-clause-next
 coefficient-requires-clause-next c =
     let k = (goal.at.coefficient-requires-clause-next c).After-deref-jet-items in
     number_at c.args.space c.args.order c.deref-jet-items.result.now (jets k) c.loop-jet.jet-index _ c.loop-jet-test.true
-    ∙ ap (λ n. c.args.space.p + n) (sym (ap length c.as_slice.ensures.value ∙ counted c.loop-jet.made.items c.deref-jet-items.result.now c.loop-jet.jet-index c.loop-jet.invariant.jets c.loop-jet-test.true))
+    ∙ ap (λ n. c.args.space.p + n) (sym (ap length c.as_slice.ensures.value ∙ values_counted c.loop-jet.made.items c.deref-jet-items.result.now c.loop-jet.jet-index c.loop-jet.invariant.jets c.loop-jet-test.true))
 
 pub returns-in_err-next-clause-past : goal.returns-in_err-next-clause-past
 returns-in_err-next-clause-past c =
@@ -62,7 +54,7 @@ loop-jet-preserved c =
     let pushed : c.push.new.self.items ≡ c.loop-jet.made.items ++ (jet, c.in_ok-next.next) ∷ [] = grind (arith, common_steps) in
     record {
       jets = ap (map (λ (v : Jet × WholePolynomial). v.0)) pushed ∙ map_push (λ (v : Jet × WholePolynomial). v.0) c.loop-jet.made.items (jet, c.in_ok-next.next) ∙ ap (λ xs. xs ++ jet ∷ []) c.loop-jet.invariant.jets ∙ sym (take_more js i _ c.loop-jet-test.true);
-      values = values_more S c.args.order js (jets k) (coefficient_at S V) c.loop-jet.made.items c.push.new.self.items i _ (jet, c.in_ok-next.next) c.loop-jet.invariant.values (counted c.loop-jet.made.items js i c.loop-jet.invariant.jets c.loop-jet-test.true) c.loop-jet-test.true c.in_ok-next.ensures.coefficient pushed;
+      values = values_more S c.args.order js (jets k) (coefficient_at S V) c.loop-jet.made.items c.push.new.self.items i _ (jet, c.in_ok-next.next) c.loop-jet.invariant.values (values_counted c.loop-jet.made.items js i c.loop-jet.invariant.jets c.loop-jet-test.true) c.loop-jet-test.true c.in_ok-next.ensures.coefficient pushed;
       fits = holds_more S c.args.order js (jets k) (λ x. IsWithinLimits (bulk_at S V x)) i _ c.loop-jet.invariant.fits c.loop-jet-test.true c.in_ok-next.ensures.fits;
     }
 

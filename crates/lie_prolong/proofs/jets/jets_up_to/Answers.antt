@@ -2,13 +2,13 @@ use Rattle.std.proofs.Common.{ℕ, arith, ap, subst, sym, ◌∙◌, ◌≡◌, 
 use Rattle.std.specs.List.{range_with_len}
 use Rattle.std.specs.Prelude.{All}
 use Rattle.std.proofs.lemmas.List.{length_push}
-use Rattle.std.proofs.lemmas.List.Elements.{All-append}
+use Rattle.std.proofs.lemmas.List.Elements.{All-push}
 use Rattle.lie_geometry.specs.Coordinates.{number, coordinates_up_to}
 use Rattle.lie_geometry.proofs.NumberOrder.{number_below_bound}
 use Rattle.lie_jet.specs.Jets.{coordinate_of, IsJet, IsSmall}
 use Rattle.lie_jet.specs.declared.jet.Jet.{Jet}
 use Rattle.lie_jet.proofs.JetNumbers.{length_cut}
-use Rattle.lie_prolong.proofs.JetLists.{numbers_of, number_is, low_number, lower_order, all_numbered, past_end, end_found, range_push, All_one}
+use Rattle.lie_prolong.proofs.JetLists.{numbers_of, number_is, low_number, lower_order, all_numbered, past_end, end_found, range_push}
 use Rattle.lie_prolong.proofs.jets.jets_up_to.Goals as goal
 use Rattle.lie_prolong.proofs.jets.jets_up_to.Goals.{in-Some+then-order_of-from, in_default}
 
@@ -30,7 +30,7 @@ loop-jet-preserved c =
     let below : c.loop-jet.number < coordinates_up_to S c.args.order = low_number S small c.args.order c.loop-jet.number c.in-Some.jet is.1 low in
     record {
       place = ap (λ n. n + 1) c.loop-jet.invariant.place ∙ longer S.p c.loop-jet.jets.items c.push.new.self.items c.in-Some.jet pushed;
-      jets = subst (λ (js : List Jet). All (IsJet S c.args.order) js) (sym pushed) (All-append (IsJet S c.args.order) c.loop-jet.jets.items (c.in-Some.jet ∷ []) c.loop-jet.invariant.jets (All_one (IsJet S c.args.order) c.in-Some.jet (lower_order S small c.args.order 12 c.in-Some.jet is.0 low)));
+      jets = subst (λ (js : List Jet). All (IsJet S c.args.order) js) (sym pushed) (All-push (IsJet S c.args.order) c.loop-jet.jets.items c.in-Some.jet c.loop-jet.invariant.jets (lower_order S small c.args.order 12 c.in-Some.jet is.0 low));
       numbers = subst (λ (js : List Jet). numbers_of S js ≡ range_with_len S.p (length js)) (sym pushed) (range_push S.p c.loop-jet.jets.items c.in-Some.jet (λ j. number S (coordinate_of S j)) c.loop-jet.invariant.numbers (number_is S small c.loop-jet.number c.in-Some.jet is.1 ∙ c.loop-jet.invariant.place));
       within = omega arith;
     }

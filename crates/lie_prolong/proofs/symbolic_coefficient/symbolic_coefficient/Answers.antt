@@ -13,14 +13,14 @@ use Rattle.lie_jet.proofs.TotalSteps.{on_ok, if_err}
 use Rattle.lie_jet.proofs.TotalParts.{if_ok}
 use Rattle.lie_prolong.specs.Lowered.{IsLowered}
 use Rattle.lie_prolong.specs.SymbolicBulks.{symbolic_multiples, symbolic_bulk_at}
-use Rattle.lie_prolong.proofs.Recursion.{lowered_number, value_read}
+use Rattle.lie_prolong.proofs.Recursion.{lowered_before, value_read}
 use Rattle.lie_prolong.proofs.SymbolicLimits.{low_symbolic}
 use Rattle.lie_prolong.proofs.SymbolicSteps.{symbolic_stepped, symbolic_bulk_stepped, symbolic_first}
 use Rattle.lie_prolong.proofs.symbolic_coefficient.symbolic_coefficient.Goals as goal
 use Rattle.lie_prolong.proofs.symbolic_coefficient.symbolic_coefficient.Goals.{After-from}
 
 low_number : (c : After-from) → number c.args.space (coordinate_of c.args.space c.in-Some.lower) < c.args.space.p + length c.args.before.now
-low_number c = subst (λ n. number c.args.space (coordinate_of c.args.space c.in-Some.lower) < n) c.requires.next (lowered_number c.args.space c.args.jet.now c.in-Some.lower c.in-Some.k c.requires.jet c.in-Some.ensures)
+low_number c = lowered_before c.args.space c.args.jet.now c.in-Some.lower c.in-Some.k (length c.args.before.now) c.requires.jet c.in-Some.ensures c.requires.next
 
 p_is : (c : After-from) → c.from.result ≡ c.args.space.p
 p_is c = c.from.ensures ∙ ap (λ (s : Space). s.p) c.space.view_is

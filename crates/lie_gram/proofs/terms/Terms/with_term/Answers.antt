@@ -9,16 +9,12 @@ some_is : {A : Type 0} (b : Bool) (x y : A) → Some x ≡ (if b then Some y els
 some_is true x y e = cc
 some_is false x y e = cc
 
-some_same : {A : Type 0} (x y : A) → Some x ≡ Some y → x ≡ y
-some_same x y e = cc
-
 pub invariant_of-result : goal.invariant_of-result
 invariant_of-result c =
-    let value = some_same c.in-Some-Some.value _ c.in-Some-Some.ensures' in
-    let total = some_is _ c.in-Some-Some.total _ c.in-Some-Some.ensures in
+    let total = some_is _ c.in-Some.total _ c.in-Some.ensures in
     record {
-      sized = subst (AreSizes c.in_ok-sizes-in-Some-Some.sizes) (sym c.in_ok-list-in-Some-Some.ensures)
-          (sizes_step c.args.self.sizes c.in_ok-sizes-in-Some-Some.sizes c.args.self.list.items c.in_ok-key.key c.args.mono c.in-Some-Some.value c.args.number c.in-Some-Some.total
+      sized = subst (AreSizes c.in_ok-sizes-in-Some.sizes) (sym c.in_ok-list-in-Some.ensures)
+          (sizes_step c.args.self.sizes c.in_ok-sizes-in-Some.sizes c.args.self.list.items c.in_ok-key.key c.args.mono c.signed.result c.args.number c.in-Some.total
           c.args.self.sized (c.in_ok-key.ensures.items ∙ c.pairs.ensures) (total ∙ ap (λ s. s + c.args.number) c.size_at-size.ensures)
-          (ap unsigned_abs value ∙ unsigned_abs-signed c.args.negative c.args.number) c.in_ok-sizes-in-Some-Some.ensures);
+          (ap unsigned_abs c.signed.ensures ∙ unsigned_abs-signed c.args.negative c.args.number) c.in_ok-sizes-in-Some.ensures);
     }

@@ -6,7 +6,7 @@ use Rattle.lie_math.specs.Polynomial.{WholePolynomial}
 use Rattle.lie_systems.specs.Triples.{triples_in}
 use Rattle.lie_jet.specs.Derivatives.{derivative_of, derivative_terms}
 use Rattle.lie_jet.specs.declared.derivative.Der.{Der}
-use Rattle.lie_jet.proofs.DerivativeLists.{length_map}
+use Rattle.std.proofs.lemmas.List.{length-map}
 use Rattle.lie_jet.proofs.FormParts.{count_step, within_step, few_are, many_are}
 use Rattle.std.proofs.lemmas.Bool.{leb-true, leb-false}
 use Rattle.lie_jet.proofs.form.SymForm.has_few_triples.Goals as goal
@@ -21,7 +21,7 @@ loop-term-preserved c = record {
 
 -- all of the coefficients were counted
 whole : (ts kept : List (Der × WholePolynomial)) (k : ℕ) → length ts ≤ k → ts ≡ kept → take k (derivative_terms ts) ≡ derivative_terms kept
-whole ts kept k h q = all_taken (derivative_terms ts) k (subst (λ n. n ≤ k) (sym (length_map (λ (t : Der × WholePolynomial). (derivative_of t.0, t.1)) ts)) h) ∙ ap derivative_terms q
+whole ts kept k h q = all_taken (derivative_terms ts) k (subst (λ n. n ≤ k) (sym (length-map ts (λ (t : Der × WholePolynomial). (derivative_of t.0, t.1)))) h) ∙ ap derivative_terms q
 
 pub returns-clause-few : goal.returns-clause-few
 returns-clause-few c t =
