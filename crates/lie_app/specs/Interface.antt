@@ -6,7 +6,8 @@ use Rattle.std.specs.declared.option.Option.{Option}
 use Rattle.clap.specs.Walk.{Row, Rule, Text, first_of}
 use Rattle.clap.specs.Simple.{App, Shape, new_app, new_rule, on_top, with_rule, with_subcommand}
 use Rattle.lie_app.specs.Words.{AnyCommand, ◌>>=◌}
-use Rattle.lie_app.specs.declared.words.Command.TheVariants.{Determine, Check}
+use Rattle.lie_app.specs.declared.words.Command.TheVariants.{OnFile}
+use Rattle.lie_app.specs.declared.words.FileCommand.TheVariants.{Determine, Check}
 
 -- an argument that may not be left out
 abbrev pub argument : Text → Rule
@@ -28,8 +29,9 @@ interface = with_subcommand (with_subcommand (on_top bare (new_app (codes "lie")
 -- the command of this name, with the values that were found for its arguments
 abbrev pub named_met : Text → List Row → Option AnyCommand
 named_met name rows =
-    if bytes_eq name (codes "determine") then option_map Determine (first_of (codes "path") rows)
-    else if bytes_eq name (codes "check") then (first_of (codes "path") rows >>= λ path. option_map (Check path) (first_of (codes "field") rows))
+    if bytes_eq name (codes "determine") then option_map (λ path. OnFile path Determine) (first_of (codes "path") rows)
+    else if bytes_eq name (codes "check")
+    then (first_of (codes "path") rows >>= λ path. option_map (λ field. OnFile path (Check field)) (first_of (codes "field") rows))
     else None
 
 abbrev pub command_met : Option (Text × List Row) → Option AnyCommand

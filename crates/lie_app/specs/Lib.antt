@@ -1,8 +1,13 @@
--- The definitions that the contracts cite, from the words of a call to what it leaves.
+-- The definitions that the contracts cite, from the words of a call to what it leaves. Each command has a file of its own.
 pub mod Words
 pub mod Interface
-pub mod Terms
-pub mod Report
 pub mod Status
+pub mod Outcomes
 pub mod Causes
+pub mod Outside
+pub mod SolvedFile
+pub mod Determine
+pub mod Checking
+pub mod Work
+pub mod OnFile
 pub mod Run

@@ -2,9 +2,11 @@
 use Rattle.std.specs.Prelude.{ℕ, List, [], ◌++◌, codes, decimal}
 use Rattle.lie_ring.specs.declared.failures.PastKind.{PastKind}
 use Rattle.lie_ring.specs.declared.failures.PastKind.TheVariants as pasts
-use Rattle.lie_gram.specs.declared.fault.BadKind.{BadKind}
-use Rattle.lie_gram.specs.declared.fault.BadKind.TheVariants.{TooLong, NotAscii, Header, UnknownWord, NameBad, NameTwice, UnknownName, Number, Exponent, Order, TooManyNames, TooManyEquations, Syntax, EndMissing}
-use Rattle.lie_gram.specs.declared.fault.BadFile.{BadFile}
+use Rattle.lie_scan.specs.declared.fault.BadKind.{BadKind}
+use Rattle.lie_scan.specs.declared.fault.BadKind.TheVariants.{TooLong, NotAscii, Header, UnknownWord, NameBad, NameTwice}
+use Rattle.lie_scan.specs.declared.fault.BadKind.TheVariants.{UnknownName, Number, Exponent, Order, TooManyNames}
+use Rattle.lie_scan.specs.declared.fault.BadKind.TheVariants.{TooManyEquations, Syntax, EndMissing}
+use Rattle.lie_scan.specs.declared.fault.BadFile.{BadFile}
 use Rattle.lie_solved.specs.declared.solved.NotKind.{NotKind}
 use Rattle.lie_solved.specs.declared.solved.NotKind.TheVariants.{NoDerivative, LeadNotLinear, LeadRepeated, LeadInside}
 use Rattle.lie_app.specs.declared.status.Source.{Source}
@@ -61,7 +63,8 @@ start_of Field = codes "lie: field: "
 
 -- the first fault of a text, with its place
 abbrev pub fault_line : Source → BadFile → List ℕ
-fault_line source bad = start_of source ++ bad_text bad.kind ++ codes " at " ++ decimal bad.line ++ codes ":" ++ decimal bad.column ++ codes "\n"
+fault_line source bad =
+    start_of source ++ bad_text bad.kind ++ codes " at " ++ decimal bad.line ++ codes ":" ++ decimal bad.column ++ codes "\n"
 
 abbrev pub not_line : NotKind → ℕ → List ℕ
 not_line kind k = codes "lie: not solved: " ++ not_text kind ++ codes " in equation " ++ decimal k ++ codes "\n"

@@ -1,10 +1,15 @@
 //! The top call: from the words of a command line over files to a report.
 #![tactic(auto)]
 
+mod causes;
+mod checking;
+mod determine;
+pub mod laws;
 mod line;
-mod report;
+mod on_file;
+mod outcome;
+mod solved_file;
 mod status;
-mod term;
 mod top;
 mod words;
 mod work;
@@ -21,6 +26,6 @@ mod examples_tests;
 #[cfg(test)]
 mod path_tests;
 #[cfg(test)]
-mod printing_tests;
+mod status_tests;
 #[cfg(test)]
 mod tests;

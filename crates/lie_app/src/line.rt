@@ -6,8 +6,8 @@ ghost use Rattle.lie_app.specs.Status.{bad_text, not_text, past_text, fault_line
 use crate::status::{Source, Status};
 use arrayvec::ArrayString;
 use itoa::Buffer;
-use lie_gram::{BadFile, BadKind};
 use lie_ring::PastKind;
+use lie_scan::fault::{BadFile, BadKind};
 use lie_solved::NotKind;
 
 /// Room for any line.

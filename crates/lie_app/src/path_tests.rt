@@ -1,8 +1,8 @@
 // The whole path of both commands over fakes, with ample memory and with texts from a model that was written apart.
 use crate::tests::check;
 use crate::{Source, Status};
-use lie_gram::{BadFile, BadKind};
 use lie_ring::PastKind;
+use lie_scan::fault::{BadFile, BadKind};
 use std::alloc::Global;
 use std::process::Abort;
 use std::test::Fail;
@@ -38,7 +38,7 @@ pub fn puts(
     file: &[u8],
     text: &[u8],
 ) -> Result<(), Fail> {
-    let want = (Status::Done, text, b"".as_slice());
+    let want = (&Status::Done, text, b"".as_slice());
     check(rt, alloc, words, file, (&[], &[]), want)
 }
 
@@ -51,7 +51,7 @@ fn tells(
     status: Status,
     line: &[u8],
 ) -> Result<(), Fail> {
-    check(rt, alloc, words, file, (&[], &[]), (status, b"", line))
+    check(rt, alloc, words, file, (&[], &[]), (&status, b"", line))
 }
 
 #[test]
@@ -107,25 +107,81 @@ fn fault_of_a_field_is_told(rt: HostRuntime) -> Result<(), Fail> {
     )
 }
 
+// The square of the lead v_x is replaced, the terms without it are multiplied by the square of its factor, and those with u_x go.
+const POWERS: &[u8] = b"lie 1\nvars x\ndeps u v\neq u_x = 0\neq 2*v_x = u\nend\n";
+
 #[test]
-fn work_past_a_limit_is_told(rt: HostRuntime) -> Result<(), Fail> {
+fn powers_of_leads_are_replaced(rt: HostRuntime) -> Result<(), Fail> {
     let alloc = rt.alloc();
+    let no = b"no equation 2 remainder -2*u^3\n";
+    puts(&rt, alloc, &["check", "f", "u*v*d_x"], POWERS, no)?;
+    let no = b"no equation 2 remainder -6*u^3\n";
+    let field = "u*v*d_x + u^3*d_u";
+    puts(&rt, alloc, &["check", "f", field], POWERS, no)?;
+    let field = "u*v*d_x - 1/2*u^3*d_u";
+    puts(&rt, alloc, &["check", "f", field], POWERS, b"yes\n")
+}
+
+// The coefficient past 2^127 - 1.
+fn is_past(rt: &impl Abort, alloc: Global, words: &[&str], file: &[u8]) -> Result<(), Fail> {
     let past = Status::Past {
         step: 0,
         what: PastKind::Coefficient,
     };
     let line = b"lie: past Coefficient at step 0\n";
-    let field = "170141183460469231731687303715884105727*u*d_u";
-    tells(&rt, alloc, &["check", "f", field], WAVES, past, line)?;
-    let file = b"lie 1\nvars x\ndeps u\neq u_x = 13043817825332782213*u\nend\n";
-    tells(&rt, alloc, &["determine", "f"], file, past, line)
+    tells(rt, alloc, words, file, past, line)
+}
+
+// The square of the number, and three times the number of the field, are the last within the limit.
+const WITHIN: &[u8] = b"lie 1\nvars x\ndeps u\neq u_x = 13043817825332782212*u\nend\n";
+
+const WITHIN_REPORT: &[u8] = b"lie determining 1\nvars x\ndeps u\nfree f1(x,u)\nfree f2(x,u)\n\
+    general x = f1\ngeneral u = f2\nremaining 1\nf2_x + 13043817825332782212*u*f2_u - \
+    13043817825332782212*u*f1_x - 170141183460469231722567801800623612944*u^2*f1_u - \
+    13043817825332782212*f2 = 0\nend\n";
+
+const PAST: &[u8] = b"lie 1\nvars x\ndeps u\neq u_x = 13043817825332782213*u\nend\n";
+
+#[test]
+fn coefficients_have_a_limit(rt: HostRuntime) -> Result<(), Fail> {
+    let alloc = rt.alloc();
+    puts(&rt, alloc, &["determine", "f"], WITHIN, WITHIN_REPORT)?;
+    is_past(&rt, alloc, &["determine", "f"], PAST)?;
+    puts(&rt, alloc, &["check", "f", "u*d_u"], PAST, b"yes\n")?;
+    is_past(
+        &rt,
+        alloc,
+        &["check", "f", "13043817825332782212*u*d_u"],
+        WITHIN,
+    )?;
+    let field = "13043817825332782212*u*d_u";
+    let text = b"no equation 1 remainder 13043817825332782212*u*u_x\n";
+    puts(&rt, alloc, &["check", "f", field], WAVES, text)?;
+    let field = "56713727820156410577229101238628035242*u*d_u";
+    let text = b"no equation 1 remainder 56713727820156410577229101238628035242*u*u_x\n";
+    puts(&rt, alloc, &["check", "f", field], WAVES, text)?;
+    let field = "56713727820156410577229101238628035243*u*d_u";
+    is_past(&rt, alloc, &["check", "f", field], WAVES)
+}
+
+// For u*d_t the terms with the square of the number cancel, but their absolute values are past the limit from 2^63 on.
+const ALMOST: &[u8] = b"lie 1\nvars x t\ndeps u\neq u_t = 4611686018427387904*u_xx + u*u_x\nend\n";
+
+const TOO_FAR: &[u8] = b"lie 1\nvars x t\ndeps u\neq u_t = 9223372036854775808*u_xx + u*u_x\nend\n";
+
+#[test]
+fn limits_are_those_of_absolute_values(rt: HostRuntime) -> Result<(), Fail> {
+    let alloc = rt.alloc();
+    let no = b"no equation 1 remainder 9223372036854775808*u_x*u_xt\n";
+    puts(&rt, alloc, &["check", "f", "u*d_t"], ALMOST, no)?;
+    is_past(&rt, alloc, &["check", "f", "u*d_t"], TOO_FAR)
 }
 
 #[test]
 fn fault_of_writing_is_told(rt: HostRuntime) -> Result<(), Fail> {
     let words: &[&str] = &["determine", "f"];
     let want = (
-        Status::WriteFault,
+        &Status::WriteFault,
         b"".as_slice(),
         b"lie: write fault\n".as_slice(),
     );

@@ -1,9 +1,11 @@
-// How a call went: its status, and the exit code.
+// The status of a call, and its exit code.
 ghost use Rattle.std.specs.Prelude.{◌≡◌};
+ghost use Rattle.lie_app.specs.Outcomes.{outcome_of};
 ghost use Rattle.lie_app.specs.Status.{code_of};
 
-use lie_gram::BadFile;
+use crate::outcome::{Failure, Outcome, Refusal};
 use lie_ring::PastKind;
+use lie_scan::fault::BadFile;
 use lie_solved::NotKind;
 
 /// A text that is read.
@@ -16,7 +18,7 @@ pub enum Source {
 }
 
 /// How a call went.
-#[derive(Clone, Copy, Debug, PartialEq, Eq)]
+#[derive(Drop, Debug, PartialEq, Eq)]
 pub enum Status {
     /// The whole output was taken.
     Done,
@@ -41,6 +43,32 @@ pub enum Status {
     WriteFault,
     /// The file is not there.
     Missing,
+}
+
+// The status that tells a refusal.
+fn refused(refusal: Refusal) -> Status
+    ensures { outcome_of result ≡ Outcome.Refused refusal }
+{
+    match refusal {
+        Refusal::Usage => Status::Usage,
+        Refusal::Missing => Status::Missing,
+        Refusal::Bad(source, bad) => Status::Bad(source, bad),
+        Refusal::Not(kind, equation) => Status::Not(kind, equation),
+        Refusal::Past { step, what } => Status::Past { step, what },
+    }
+}
+
+/// The status that tells how a call went.
+pub fn status_of(outcome: Outcome) -> Status
+    ensures { outcome_of result ≡ outcome }
+{
+    match outcome {
+        Outcome::Done => Status::Done,
+        Outcome::Refused(refusal) => refused(refusal),
+        Outcome::Failed(Failure::NoMemory) => Status::NoMemory,
+        Outcome::Failed(Failure::ReadFault) => Status::ReadFault,
+        Outcome::Failed(Failure::WriteFault) => Status::WriteFault,
+    }
 }
 
 /// The exit code of the status. Takes no memory.

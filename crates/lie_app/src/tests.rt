@@ -1,7 +1,7 @@
 // The top call over fakes, with ample memory: the text, the line and the status of each outcome.
 use super::*;
-use lie_gram::{BadFile, BadKind};
 use lie_outer::{Bytes, MemoryFiles, MemorySink, Text};
+use lie_scan::fault::{BadFile, BadKind};
 use lie_solved::NotKind;
 use std::alloc::Global;
 use std::process::Abort;
@@ -14,7 +14,7 @@ pub fn check(
     words: &[&str],
     file: &[u8],
     (failing_reads, failing_puts): (&[u64], &[u64]),
-    want: (Status, &[u8], &[u8]),
+    want: (&Status, &[u8], &[u8]),
 ) -> Result<(), Fail> {
     let mut owned = Vec::new(alloc);
     for word in words {
@@ -26,7 +26,7 @@ pub fn check(
     let mut out = MemorySink::new(Bytes::of(alloc, b"")?, failing_puts.to_vec(alloc)?);
     let mut err = MemorySink::new(Bytes::of(alloc, b"")?, Vec::new(alloc));
     let status = run(alloc, &owned, &mut files, &mut out, &mut err);
-    assert_eq!(rt; status, want.0);
+    assert_eq!(rt; &status, want.0);
     assert_eq!(rt; out.taken(), want.1);
     assert_eq!(rt; err.taken(), want.2);
     Ok(())
@@ -34,14 +34,14 @@ pub fn check(
 
 // A call whose words are wrong.
 fn is_usage(rt: &impl Abort, alloc: Global, words: &[&str]) -> Result<(), Fail> {
-    let want = (Status::Usage, b"".as_slice(), b"lie: usage\n".as_slice());
+    let want = (&Status::Usage, b"".as_slice(), b"lie: usage\n".as_slice());
     check(rt, alloc, words, b"", (&[], &[]), want)
 }
 
 // A call whose words are right, of a file that is not there.
 fn is_missing(rt: &impl Abort, alloc: Global, words: &[&str]) -> Result<(), Fail> {
     let want = (
-        Status::Missing,
+        &Status::Missing,
         b"".as_slice(),
         b"lie: missing\n".as_slice(),
     );
@@ -79,7 +79,7 @@ fn is_bad(
     text: &[u8],
 ) -> Result<(), Fail> {
     let status = Status::Bad(Source::File, BadFile { line, column, kind });
-    let want = (status, b"".as_slice(), text);
+    let want = (&status, b"".as_slice(), text);
     check(rt, alloc, &["determine", "f"], file, (&[], &[]), want)?;
     check(rt, alloc, &["check", "f", "?"], file, (&[], &[]), want)
 }
@@ -112,7 +112,8 @@ fn is_not_solved(
     equation: u32,
     text: &[u8],
 ) -> Result<(), Fail> {
-    let want = (Status::Not(kind, equation), b"".as_slice(), text);
+    let status = Status::Not(kind, equation);
+    let want = (&status, b"".as_slice(), text);
     check(rt, alloc, &["determine", "f"], file, (&[], &[]), want)?;
     check(rt, alloc, &["check", "f", "?"], file, (&[], &[]), want)
 }
@@ -123,15 +124,21 @@ fn systems_without_solved_form_are_told(rt: HostRuntime) -> Result<(), Fail> {
     let file = b"lie 1\nvars x\ndeps u\neq u = x\nend\n";
     let text = b"lie: not solved: NoDerivative in equation 1\n";
     is_not_solved(&rt, alloc, file, NotKind::NoDerivative, 1, text)?;
+    let file = b"lie 1\nvars x\ndeps u\neq u_x^2 = u\nend\n";
+    let text = b"lie: not solved: LeadNotLinear in equation 1\n";
+    is_not_solved(&rt, alloc, file, NotKind::LeadNotLinear, 1, text)?;
     let file = b"lie 1\nvars x\ndeps u\neq u_x = 0\neq u_x = u\nend\n";
     let text = b"lie: not solved: LeadRepeated in equation 2\n";
-    is_not_solved(&rt, alloc, file, NotKind::LeadRepeated, 2, text)
+    is_not_solved(&rt, alloc, file, NotKind::LeadRepeated, 2, text)?;
+    let file = b"lie 1\nvars x y\ndeps u v\neq u_x = -v_y\neq v_x = u_x\nend\n";
+    let text = b"lie: not solved: LeadInside in equation 2\n";
+    is_not_solved(&rt, alloc, file, NotKind::LeadInside, 2, text)
 }
 
 #[test]
 fn fault_of_reading_is_told(rt: HostRuntime) -> Result<(), Fail> {
     let want = (
-        Status::ReadFault,
+        &Status::ReadFault,
         b"".as_slice(),
         b"lie: read fault\n".as_slice(),
     );

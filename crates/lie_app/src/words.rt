@@ -11,10 +11,17 @@ use std::alloc::{AllocError, Global};
 /// A command, with its arguments.
 #[derive(Clone, Copy, Debug, PartialEq, Eq)]
 pub enum Command<T> {
-    /// The determining equations of the system of a file, which has this path.
-    Determine(T),
-    /// Whether a field is a symmetry of the system of a file: the path, and the text of the field.
-    Check(T, T),
+    /// Something is asked of the system of a file, which has this path.
+    OnFile(T, FileCommand<T>),
+}
+
+/// What is asked of the system of a file.
+#[derive(Clone, Copy, Debug, PartialEq, Eq)]
+pub enum FileCommand<T> {
+    /// Its determining equations.
+    Determine,
+    /// Whether a field is a symmetry of it: the text of the field.
+    Check(T),
 }
 
 // An argument that may not be left out.
@@ -48,8 +55,8 @@ fn named_met<'a>(name: &str, arguments: &ArgMatches<'a>) -> Option<Command<&'a s
 {
     let path = arguments.get_str("path")?;
     match name {
-        "determine" => Some(Command::Determine(path)),
-        "check" => Some(Command::Check(path, arguments.get_str("field")?)),
+        "determine" => Some(Command::OnFile(path, FileCommand::Determine)),
+        "check" => Some(Command::OnFile(path, FileCommand::Check(arguments.get_str("field")?))),
         _ => None,
     }
 }

@@ -3,36 +3,25 @@
 
 use anyhow::{Result, bail};
 use lie_poly::Flat;
-use lie_ring::{Mono, PolyFail, Polynomial, Ring, Whole};
+use lie_ring::{Mono, PolyFail, Polynomial, Ring, Whole, constant_polynomial};
 use std::alloc::Global;
 use std::env;
 
-/// 1 + x + y + z + t, and only its 1 where `with_variables` is not set.
-fn linear(alloc: Global, with_variables: bool) -> Result<Flat<Whole>, PolyFail> {
+/// 1 + x + y + z + t.
+fn linear(alloc: Global) -> Result<Flat<Whole>, PolyFail> {
     let mut terms = Vec::new(alloc);
-    if terms.push((Mono::one(alloc), Whole::one())).is_err() {
-        return Err(PolyFail::NoMemory);
-    }
-    if with_variables {
-        for var in 0..4 {
-            match Mono::new(alloc, &[(var, 1)]) {
-                Ok(Some(mono)) => {
-                    if terms.push((mono, Whole::one())).is_err() {
-                        return Err(PolyFail::NoMemory);
-                    }
-                }
-                _ => return Err(PolyFail::NoMemory),
-            }
-        }
+    terms.push((Mono::one(alloc), Whole::one()))?;
+    for variable in 0..4 {
+        terms.push((Mono::variable(alloc, variable), Whole::one()))?;
     }
     Flat::of_terms(alloc, terms.as_slice())
 }
 
 /// The number of terms of f*(f + 1).
 fn product_len(alloc: Global, n: u32) -> Result<usize, PolyFail> {
-    let base = linear(alloc, true)?;
-    let one = linear(alloc, false)?;
-    let mut power = linear(alloc, false)?;
+    let base = linear(alloc)?;
+    let one: Flat<Whole> = constant_polynomial(alloc, Whole::one())?;
+    let mut power = one.copy(alloc)?;
     for _ in 0..n {
         power = power.mul(alloc, &base)?;
     }

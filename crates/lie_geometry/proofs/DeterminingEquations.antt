@@ -19,7 +19,7 @@ use Rattle.lie_geometry.specs.Prolongation.{is_in_z, InZ}
 use Rattle.lie_geometry.specs.SolvedEquations.{SolvedEquation, is_lead, HaveHighLeads, reduced_by, reduced}
 use Rattle.lie_geometry.specs.SymbolicProlongation.{symbolic_application, field_of}
 use Rattle.lie_geometry.proofs.Parts.{part_linear, part_out, parts_zero, zero_parts}
-use Rattle.lie_geometry.proofs.Reduction.{greatest_exponent, reduced_by_additive, reduced_by_out, Bounded, bounded_none, bounded-+ᴾ, bounded_out, bounded_greatest, NonzeroFactors, rest_all, same_zero, bounded_reduced}
+use Rattle.lie_geometry.proofs.Reduction.{degrees_of, reduced_by_additive, reduced_by_out, Bounded, bounded_none, bounded-+ᴾ, bounded_out, bounded_greatest, NonzeroFactors, rest_all, same_zero, bounded_reduced}
 use Rattle.lie_geometry.proofs.SymbolicProlongation.{partials_in, apply_symbolic_application}
 
 abbrev coefficients_greatest : List (Derivative × WholePolynomial) → ℕ → ℕ
@@ -43,8 +43,8 @@ module _ (S : Space) (some_p : 0 < S.p) (some_q : 0 < S.q) (rs : List SolvedEqua
       go : (es : List (Derivative × WholePolynomial)) → ((w : ℕ) → coefficients_greatest es w ≤ e w) → Bounded rs e (sum_of_entries polynomials (λ d a. a *ᴾ derived F d) es)
       go [] h = bounded_none rs e
       go (x ∷ es) h = bounded-+ᴾ rs e _ _
-          (bounded_out rs e (is_in_z S) (not_lead S rs high) x.1 (derived F x.0) (derivative_in_z x.0) (bounded_greatest rs e x.1 (λ w. max_left (greatest_exponent x.1 w) (coefficients_greatest es w) (e w) (h w))))
-          (go es (λ w. max_right (greatest_exponent x.1 w) (coefficients_greatest es w) (e w) (h w)))
+          (bounded_out rs e (is_in_z S) (not_lead S rs high) x.1 (derived F x.0) (derivative_in_z x.0) (bounded_greatest rs e x.1 (λ w. max_left (degrees_of x.1 w) (coefficients_greatest es w) (e w) (h w))))
+          (go es (λ w. max_right (degrees_of x.1 w) (coefficients_greatest es w) (e w) (h w)))
 
   -- reduction commutes with putting in
   pub apply_symbolic_reduced : (E : LinearForm) → apply F (symbolic_reduced rs E) ≡ reduced_by rs (coefficients_greatest E.list) (apply F E)
@@ -56,8 +56,8 @@ module _ (S : Space) (some_p : 0 < S.p) (some_q : 0 < S.q) (rs : List SolvedEqua
   -- a form whose coefficients are reduced says 0 exactly if what it says is reduced to 0
   pub reduced_zero : (E : LinearForm) → apply F (symbolic_reduced rs E) ≡ 0ᴾ ↔ reduced rs (apply F E) ≡ 0ᴾ
   reduced_zero E = (
-    λ h. same_zero rs apart (coefficients_greatest E.list) (greatest_exponent (apply F E)) (apply F E) by_tops (bounded_reduced rs (apply F E)) (sym (apply_symbolic_reduced E) ∙ h),
-    λ h. apply_symbolic_reduced E ∙ same_zero rs apart (greatest_exponent (apply F E)) (coefficients_greatest E.list) (apply F E) (bounded_reduced rs (apply F E)) by_tops h,
+    λ h. same_zero rs apart (coefficients_greatest E.list) (degrees_of (apply F E)) (apply F E) by_tops (bounded_reduced rs (apply F E)) (sym (apply_symbolic_reduced E) ∙ h),
+    λ h. apply_symbolic_reduced E ∙ same_zero rs apart (degrees_of (apply F E)) (coefficients_greatest E.list) (apply F E) (bounded_reduced rs (apply F E)) by_tops h,
   )
     where
       itself : (n : ℕ) → n ≤ n

@@ -30,7 +30,7 @@ use Rattle.lie_geometry.specs.SolvedEquations.{SolvedEquation, replacement, redu
 use Rattle.lie_geometry.proofs.AbstractProlongation.{minus_derived}
 use Rattle.lie_geometry.proofs.Derivations.{variable_derivative, total_as_derivation, field_coefficient, applied_as_derivation}
 use Rattle.lie_geometry.proofs.Ideals.{one_power}
-use Rattle.lie_geometry.proofs.Reduction.{greatest_exponent}
+use Rattle.lie_geometry.proofs.Reduction.{degrees_of}
 
 -- ---- what is put into an expression
 value_in-negᴾ : (at : ℕ → WholePolynomial) (p : WholePolynomial) → value_in polynomial_algebra at (negᴾ p) ≡ negᴾ (value_in polynomial_algebra at p)
@@ -121,7 +121,7 @@ module _ (h : WholePolynomial) (V : ℕ → WholePolynomial) (in_h : IsIn (is_be
 
   pub reduced_is_condition : reduced rs (applied_prolongation one_of_each rs V (first_order_equation h)) ≡ first_order_condition h (V 0) (V 1)
   reduced_is_condition =
-      reduced_by_one h (greatest_exponent (applied_prolongation one_of_each rs V (first_order_equation h))) (applied_prolongation one_of_each rs V (first_order_equation h))
+      reduced_by_one h (degrees_of (applied_prolongation one_of_each rs V (first_order_equation h))) (applied_prolongation one_of_each rs V (first_order_equation h))
       ∙ ap put prolonged ∙ value_in-means (replacement rs) (listed 0ᴾ (atoms (variable 2))) condition
       ∙ ap (λ ρ. means polynomial_ring ρ condition) (fun_ext (λ i. listed-each put 0ᴾ (atoms (variable 2)) i ∙ ap₂ (λ d ps. listed d ps i) (value_in-0ᴾ polynomial_algebra (replacement rs)) put_atoms))
       ∙ solve polynomial_ring (listed 0ᴾ (atoms h)) condition (v 1 ⊕ v 0 ⊗ v 2 ⊕ ⊖ (v 0 ⊗ v 3) ⊕ ⊖ (v 0 ⊗ v 0 ⊗ v 4) ⊕ ⊖ (v 7 ⊗ v 5) ⊕ ⊖ (v 8 ⊗ v 6)) refl

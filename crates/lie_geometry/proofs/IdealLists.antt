@@ -1,4 +1,4 @@
--- The ideal of the equations, told by their list: a polynomial is reduced to 0 exactly if a multiple of it by a number is a sum of multiples of the differences.
+-- The ideal of the equations, told by their list: a polynomial is reduced to 0 exactly if a power product of the factors times it is a sum of multiples of the differences.
 use Rattle.std.specs.Prelude.{◌≡◌, ℕ, zero, suc, ◌<◌, Bool, true, false, cond, List, [], ◌∷◌, ◌↔◌, length, eqb, All, slice_index_or, pos}
 use Rattle.std.proofs.Common.{refl, sym, ap, ap₂, subst, ◌∙◌, arith, eqb-true, eq-eqb}
 use Rattle.std.proofs.lemmas.Bool.{ne_eqb, eqb-false}
@@ -7,12 +7,12 @@ use Rattle.lie_math.specs.FiniteSumLaws.{plus_idl, plus_comm}
 use Rattle.lie_math.specs.Polynomial.{terms, WholePolynomial, 0ᴾ, ◌+ᴾ◌, polynomials, ◌*ᴾ◌, constant, variable, negᴾ}
 use Rattle.lie_math.specs.PolynomialRing.{+ᴾ-*ᴾ, *ᴾ-dist, *ᴾ_assoc, one-*ᴾ, polynomial_ring}
 use Rattle.lie_math.proofs.Ring.{plus_idr, times_nil, nil_times}
-use Rattle.lie_geometry.specs.SolvedEquations.{SolvedEquation, difference, is_lead, IsSolved, replacement, reduced}
-use Rattle.lie_geometry.specs.InvarianceLaws.{LiesInIdeal, HasMultipleInIdeal}
+use Rattle.lie_geometry.specs.SolvedEquations.{SolvedEquation, difference, is_lead, IsSolved, replacement, factor_powers, reduced}
+use Rattle.lie_geometry.specs.InvarianceLaws.{LiesInIdeal, HasMultipleInIdeal, HasPowerProductInIdeal}
 use Rattle.lie_geometry.proofs.AbstractReduction.{combined, InIdeal, in_sum, in_multiple, ideal-0ᴾ, in_one, in_same}
 use Rattle.lie_geometry.proofs.Booleans.{or_left, or_right}
-use Rattle.lie_geometry.proofs.Ideals.{HaveDistinctLeads, distinct_leads, multiplier, Δ, multiple_of_reduced, reduced_of_multiple}
-use Rattle.lie_geometry.proofs.Reduction.{rest_all}
+use Rattle.lie_geometry.proofs.Ideals.{HaveDistinctLeads, distinct_leads, multiplier, Δ, factor_powers_apart, power_product_of_reduced, reduced_of_multiple}
+use Rattle.lie_geometry.proofs.Reduction.{degrees_of, rest_all}
 
 -- ---- sums and multiples
 lies_in_sum : (rs : List SolvedEquation) (p q : WholePolynomial) → LiesInIdeal rs p → LiesInIdeal rs q → LiesInIdeal rs (p +ᴾ q)
@@ -112,8 +112,14 @@ module _ (rs : List SolvedEquation) (solved : IsSolved rs) where
       go [] Q h i = in_same differences (sym h) (ideal-0ᴾ differences)
       go (r ∷ ss) Q h i = in_same differences (sym h.3) (in_sum differences (in_multiple differences h.0 (i 0 r (omega arith))) (go ss h.1 h.2 (rest_all (λ r. InIdeal differences (difference r)) r ss i)))
 
-  pub reduced_is_in_ideal : (P : WholePolynomial) → reduced rs P ≡ 0ᴾ ↔ HasMultipleInIdeal rs P
-  reduced_is_in_ideal P = (
-    λ h. let x = multiple_of_reduced rs solved.factors distinct solved.rights P h in (x.number, x.nonzero, lies_of _ x.is),
-    λ h. reduced_of_multiple rs solved.factors distinct solved.rights P (record { number = h.0; nonzero = h.1; is = of_lies _ h.2 }),
-  )
+  reduced_in : (P : WholePolynomial) → reduced rs P ≡ 0ᴾ → HasPowerProductInIdeal rs P
+  reduced_in P h = (degrees_of P, lies_of _ (power_product_of_reduced rs solved.factors distinct solved.rights P h))
+
+  multiple_reduced : (P : WholePolynomial) → HasMultipleInIdeal rs P → reduced rs P ≡ 0ᴾ
+  multiple_reduced P h = reduced_of_multiple rs solved.factors distinct solved.rights P (record { number = h.0; nonzero = h.1; is = of_lies _ h.2 })
+
+  power_product_reduced : (P : WholePolynomial) → HasPowerProductInIdeal rs P → reduced rs P ≡ 0ᴾ
+  power_product_reduced P h = multiple_reduced P (factor_powers rs h.0, factor_powers_apart rs solved.factors h.0, h.1)
+
+  pub reduced_is_in_ideal : (P : WholePolynomial) → (reduced rs P ≡ 0ᴾ ↔ HasPowerProductInIdeal rs P) × (HasMultipleInIdeal rs P → HasPowerProductInIdeal rs P)
+  reduced_is_in_ideal P = ((reduced_in P, power_product_reduced P), λ h. reduced_in P (multiple_reduced P h))

@@ -29,10 +29,10 @@ use Rattle.lie_math.proofs.RingSolver.{v, ◌⊗◌, solve, listed}
 use Rattle.lie_math.proofs.Substitution.{value_in_itself}
 use Rattle.lie_math.proofs.Variables.{in-variable, value_in_agrees}
 use Rattle.lie_math.proofs.Weighing.{scaled_additive, weigh, weigh-plus, weigh-term, weigh-times}
-use Rattle.lie_geometry.specs.SolvedEquations.{SolvedEquation, difference, is_lead, replacement, missing_powers, reduced_by, reduced}
+use Rattle.lie_geometry.specs.SolvedEquations.{SolvedEquation, difference, is_lead, replacement, missing_powers, factor_powers, reduced_by, reduced}
 use Rattle.lie_geometry.proofs.AbstractReduction.{InIdeal, in_sum, in_multiple, ideal-0ᴾ, in_same, weight, grown, replaced, step_difference, difference_in, reduces_in, in_reduces}
 use Rattle.lie_geometry.proofs.Booleans.{and_left, and_right, or_left, or_right}
-use Rattle.lie_geometry.proofs.Reduction.{greatest_exponent, replacement_other, fits, inside, Bounded, inside_all, power_apart, NonzeroFactors, rest_all, bounded_reduced}
+use Rattle.lie_geometry.proofs.Reduction.{degrees_of, replacement_other, fits, inside, Bounded, inside_all, power_apart, NonzeroFactors, rest_all, bounded_reduced}
 
 -- what a variable is multiplied by
 abbrev pub multiplier : List SolvedEquation → ℕ → ℤ
@@ -128,19 +128,15 @@ lead_powers-term (r ∷ rs) d w e = by (eqb w r.lead) refl (lead_powers-term rs 
     by true f ih = ap₂ (λ n z. to_power integer_algebra r.factor n *ℤ z) (exponent_same w e r.lead f) (lead_powers-other rs w e (ap (is_lead rs) (eqb-true w r.lead f) ∙ d.0)) ∙ *ℤ_comm (to_power integer_algebra r.factor e) (pos 1) ∙ *ℤ-idl (to_power integer_algebra r.factor e)
     by false f ih = ap₂ (λ n z. to_power integer_algebra r.factor n *ℤ z) (exponent_apart w e r.lead f) ih ∙ *ℤ-idl _
 
-abbrev pub full : List SolvedEquation → (ℕ → ℕ) → ℤ
-full [] e = pos 1
-full (r ∷ rs) e = to_power integer_algebra r.factor (e r.lead) *ℤ full rs e
+pub factor_powers_apart : (rs : List SolvedEquation) → NonzeroFactors rs → (e : ℕ → ℕ) → ¬ (factor_powers rs e ≡ pos 0)
+factor_powers_apart [] h e = one_not_zero
+factor_powers_apart (r ∷ rs) h e = product_not_zero _ _ (power_apart r.factor (h 0 r (omega arith)) (e r.lead)) (factor_powers_apart rs (rest_all (λ r. ¬ (r.factor ≡ pos 0)) r rs h) e)
 
-pub full_apart : (rs : List SolvedEquation) → NonzeroFactors rs → (e : ℕ → ℕ) → ¬ (full rs e ≡ pos 0)
-full_apart [] h e = one_not_zero
-full_apart (r ∷ rs) h e = product_not_zero _ _ (power_apart r.factor (h 0 r (omega arith)) (e r.lead)) (full_apart rs (rest_all (λ r. ¬ (r.factor ≡ pos 0)) r rs h) e)
-
-missing_powers_full : (rs : List SolvedEquation) (e : ℕ → ℕ) (m : Monomial) → fits rs e m ≡ true → missing_powers rs e m *ℤ lead_powers rs m ≡ full rs e
-missing_powers_full [] e m h = refl
-missing_powers_full (r ∷ rs) e m h =
+missing_powers_fill : (rs : List SolvedEquation) (e : ℕ → ℕ) (m : Monomial) → fits rs e m ≡ true → missing_powers rs e m *ℤ lead_powers rs m ≡ factor_powers rs e
+missing_powers_fill [] e m h = refl
+missing_powers_fill (r ∷ rs) e m h =
     middle (factors integer_algebra) (to_power integer_algebra r.factor (e r.lead - exponent m r.lead)) (missing_powers rs e m) (to_power integer_algebra r.factor (exponent m r.lead)) (lead_powers rs m)
-    ∙ ap₂ ◌*ℤ◌ (sym (to_power-plus integer_algebra r.factor (e r.lead - exponent m r.lead) (exponent m r.lead)) ∙ ap (to_power integer_algebra r.factor) (back (exponent m r.lead) (e r.lead) (leb-true _ _ (and_left (leb (exponent m r.lead) (e r.lead)) (fits rs e m) h)))) (missing_powers_full rs e m (and_right (leb (exponent m r.lead) (e r.lead)) (fits rs e m) h))
+    ∙ ap₂ ◌*ℤ◌ (sym (to_power-plus integer_algebra r.factor (e r.lead - exponent m r.lead) (exponent m r.lead)) ∙ ap (to_power integer_algebra r.factor) (back (exponent m r.lead) (e r.lead) (leb-true _ _ (and_left (leb (exponent m r.lead) (e r.lead)) (fits rs e m) h)))) (missing_powers_fill rs e m (and_right (leb (exponent m r.lead) (e r.lead)) (fits rs e m) h))
   where
     back : (n e : ℕ) → n ≤ e → (e - n) + n ≡ e
     back n e h = omega arith
@@ -233,7 +229,7 @@ module _ (rs : List SolvedEquation) (apart : NonzeroFactors rs) (distinct : Have
       sym (sum_of_entries-map polynomials polynomials R (value_in-0ᴾ polynomial_algebra right) (value_in-plus polynomial_algebra right) (λ k a. term k (a *ℤ missing_powers rs e k)) P.list
       ∙ ap (λ φ. over_terms φ P) (fun_ext (λ m. fun_ext (λ a. value_in-term polynomial_algebra right m (a *ℤ missing_powers rs e m)))))
 
-  grown_q : (e : ℕ → ℕ) (P : WholePolynomial) → Bounded rs e P → G (q_of e P) ≡ constant (full rs e) *ᴾ P
+  grown_q : (e : ℕ → ℕ) (P : WholePolynomial) → Bounded rs e P → G (q_of e P) ≡ constant (factor_powers rs e) *ᴾ P
   unfolding weigh
   grown_q e P b =
       ap (λ p. G (q_of e p)) (sym (inside_all rs e P b))
@@ -242,13 +238,13 @@ module _ (rs : List SolvedEquation) (apart : NonzeroFactors rs) (distinct : Have
       ∙ ap (λ φ. over_terms φ P) (fun_ext (λ k. fun_ext (λ a.
       ap G (over_terms-term (λ k a. term k (a *ℤ missing_powers rs e k)) (scaled_additive (missing_powers rs e)) k (a *ℤ inside rs e k)) ∙ over_terms-term (λ k a. term k (a *ℤ W k)) (scaled_additive W) k _
       ∙ ap (term k) (ap (λ z. ((a *ℤ inside rs e k) *ℤ missing_powers rs e k) *ℤ z) (weight_is k) ∙ at k a (fits rs e k) refl)
-      ∙ sym (term_times_term unit k (full rs e) (a *ℤ inside rs e k) ∙ ap (λ m. term m (full rs e *ℤ (a *ℤ inside rs e k))) (·_idl k)))))
-      ∙ sym (sum_of_entries-map polynomials polynomials (λ z. constant (full rs e) *ᴾ z) (times_nil polynomial_ring (constant (full rs e))) (*ᴾ-dist (constant (full rs e))) (λ k a. term k (a *ℤ inside rs e k)) P.list)
-      ∙ ap (λ z. constant (full rs e) *ᴾ z) (inside_all rs e P b)
+      ∙ sym (term_times_term unit k (factor_powers rs e) (a *ℤ inside rs e k) ∙ ap (λ m. term m (factor_powers rs e *ℤ (a *ℤ inside rs e k))) (·_idl k)))))
+      ∙ sym (sum_of_entries-map polynomials polynomials (λ z. constant (factor_powers rs e) *ᴾ z) (times_nil polynomial_ring (constant (factor_powers rs e))) (*ᴾ-dist (constant (factor_powers rs e))) (λ k a. term k (a *ℤ inside rs e k)) P.list)
+      ∙ ap (λ z. constant (factor_powers rs e) *ᴾ z) (inside_all rs e P b)
     where
-      at : (k : Monomial) (a : ℤ) (t : Bool) → fits rs e k ≡ t → ((a *ℤ cond t (pos 1) (pos 0)) *ℤ missing_powers rs e k) *ℤ lead_powers rs k ≡ full rs e *ℤ (a *ℤ cond t (pos 1) (pos 0))
-      at k a true f = *ℤ_assoc (a *ℤ pos 1) (missing_powers rs e k) (lead_powers rs k) ∙ ap (λ z. (a *ℤ pos 1) *ℤ z) (missing_powers_full rs e k f) ∙ *ℤ_comm (a *ℤ pos 1) (full rs e)
-      at k a false f = ap (λ z. (z *ℤ missing_powers rs e k) *ℤ lead_powers rs k) (*ℤ-zero a) ∙ ap (λ z. z *ℤ lead_powers rs k) (zero-*ℤ (missing_powers rs e k)) ∙ zero-*ℤ (lead_powers rs k) ∙ sym (ap (λ z. full rs e *ℤ z) (*ℤ-zero a) ∙ *ℤ-zero (full rs e))
+      at : (k : Monomial) (a : ℤ) (t : Bool) → fits rs e k ≡ t → ((a *ℤ cond t (pos 1) (pos 0)) *ℤ missing_powers rs e k) *ℤ lead_powers rs k ≡ factor_powers rs e *ℤ (a *ℤ cond t (pos 1) (pos 0))
+      at k a true f = *ℤ_assoc (a *ℤ pos 1) (missing_powers rs e k) (lead_powers rs k) ∙ ap (λ z. (a *ℤ pos 1) *ℤ z) (missing_powers_fill rs e k f) ∙ *ℤ_comm (a *ℤ pos 1) (factor_powers rs e)
+      at k a false f = ap (λ z. (z *ℤ missing_powers rs e k) *ℤ lead_powers rs k) (*ℤ-zero a) ∙ ap (λ z. z *ℤ lead_powers rs k) (zero-*ℤ (missing_powers rs e k)) ∙ zero-*ℤ (lead_powers rs k) ∙ sym (ap (λ z. factor_powers rs e *ℤ z) (*ℤ-zero a) ∙ *ℤ-zero (factor_powers rs e))
 
   -- a multiple of P by a number that is not 0 lies in the ideal of the equations
   pub record HasMultiple (P : WholePolynomial) : Type 0 where
@@ -256,18 +252,17 @@ module _ (rs : List SolvedEquation) (apart : NonzeroFactors rs) (distinct : Have
     pub nonzero : ¬ (number ≡ pos 0)
     pub is : InIdeal Δ (constant number *ᴾ P)
 
+  pub power_product_of_reduced : (P : WholePolynomial) → reduced rs P ≡ 0ᴾ → InIdeal Δ (constant (factor_powers rs (degrees_of P)) *ᴾ P)
+  power_product_of_reduced P h = reduces_in c right (product rs) (others rs) splits (factor_powers rs (degrees_of P)) P (q_of (degrees_of P) P) (grown_q (degrees_of P) P (bounded_reduced rs P)) (sym (reduced_as_value (degrees_of P) P) ∙ h)
+
   pub multiple_of_reduced : (P : WholePolynomial) → reduced rs P ≡ 0ᴾ → HasMultiple P
-  multiple_of_reduced P h = record {
-    number = full rs (greatest_exponent P);
-    nonzero = full_apart rs apart (greatest_exponent P);
-    is = reduces_in c right (product rs) (others rs) splits (full rs (greatest_exponent P)) P (q_of (greatest_exponent P) P) (grown_q (greatest_exponent P) P (bounded_reduced rs P)) (sym (reduced_as_value (greatest_exponent P) P) ∙ h);
-  }
+  multiple_of_reduced P h = record { number = factor_powers rs (degrees_of P); nonzero = factor_powers_apart rs apart (degrees_of P); is = power_product_of_reduced P h }
 
   pub reduced_of_multiple : (P : WholePolynomial) → HasMultiple P → reduced rs P ≡ 0ᴾ
   reduced_of_multiple P h =
-      reduced_as_value (greatest_exponent P) P
+      reduced_as_value (degrees_of P) P
       ∙ in_reduces c right (product rs) (others rs) splits (multiplier_apart rs apart) (product_apart rs apart) (λ w. grown_plain (right w) (right_plain w)) (λ w. replaced_plain (right w) (right_plain w))
-      (full rs (greatest_exponent P)) h.number P (q_of (greatest_exponent P) P) (full_apart rs apart (greatest_exponent P)) h.nonzero (grown_q (greatest_exponent P) P (bounded_reduced rs P)) h.is
+      (factor_powers rs (degrees_of P)) h.number P (q_of (degrees_of P) P) (factor_powers_apart rs apart (degrees_of P)) h.nonzero (grown_q (degrees_of P) P (bounded_reduced rs P)) h.is
 
   -- ---- derivations that keep the ideal
   abbrev I : WholePolynomial → Type 0
@@ -328,10 +323,10 @@ module _ (rs : List SolvedEquation) (apart : NonzeroFactors rs) (distinct : Have
 
     -- what is reduced to 0 is still, when it is derived
     pub derived_reduced : (P : WholePolynomial) → reduced rs P ≡ 0ᴾ → HasMultiple (D P)
-    derived_reduced P h = multiple_off (full rs (greatest_exponent P)) (full_apart rs apart (greatest_exponent P)) (D P) (multiple_same _ _ same (derived_difference (q_of (greatest_exponent P) P)))
+    derived_reduced P h = multiple_off (factor_powers rs (degrees_of P)) (factor_powers_apart rs apart (degrees_of P)) (D P) (multiple_same _ _ same (derived_difference (q_of (degrees_of P) P)))
       where
         n : WholePolynomial
-        n = constant (full rs (greatest_exponent P))
+        n = constant (factor_powers rs (degrees_of P))
 
-        same : D (G (q_of (greatest_exponent P) P) +ᴾ negᴾ (R (q_of (greatest_exponent P) P))) ≡ n *ᴾ D P
-        same = ap D (ap₂ (λ a b. a +ᴾ negᴾ b) (grown_q (greatest_exponent P) P (bounded_reduced rs P)) (sym (reduced_as_value (greatest_exponent P) P) ∙ h) ∙ less_nothing (n *ᴾ P)) ∙ d.times n P ∙ ap (λ z. n *ᴾ D P +ᴾ z *ᴾ P) (d.whole (full rs (greatest_exponent P))) ∙ ap (λ z. n *ᴾ D P +ᴾ z) (nil_times polynomial_ring P) ∙ plus_idr polynomial_ring (n *ᴾ D P)
+        same : D (G (q_of (degrees_of P) P) +ᴾ negᴾ (R (q_of (degrees_of P) P))) ≡ n *ᴾ D P
+        same = ap D (ap₂ (λ a b. a +ᴾ negᴾ b) (grown_q (degrees_of P) P (bounded_reduced rs P)) (sym (reduced_as_value (degrees_of P) P) ∙ h) ∙ less_nothing (n *ᴾ P)) ∙ d.times n P ∙ ap (λ z. n *ᴾ D P +ᴾ z *ᴾ P) (d.whole (factor_powers rs (degrees_of P))) ∙ ap (λ z. n *ᴾ D P +ᴾ z) (nil_times polynomial_ring P) ∙ plus_idr polynomial_ring (n *ᴾ D P)

@@ -5,7 +5,7 @@ use Rattle.std.proofs.lemmas.List.{length-replicate}
 use Rattle.lie_math.specs.Counts.{raise}
 use Rattle.lie_math.proofs.Counts.{raise_comm}
 use Rattle.lie_geometry.specs.Coordinates.{Space}
-use Rattle.lie_geometry.specs.Prolongation.{indices_from, indices, counts_of}
+use Rattle.lie_geometry.specs.Prolongation.{indices_from, indices, counts_of_indices}
 use Rattle.lie_geometry.proofs.AbstractRecursion.{inserted, Descends}
 use Rattle.lie_geometry.proofs.Booleans.{and_left, and_right}
 
@@ -36,19 +36,19 @@ all_below-inserted p k (l ∷ W) = elim (ltb k l) as (λ t. all_below p (cond t 
     swapped false false c = refl
 
 module _ (S : Space) where
-  pub counts_of-inserted : (k : ℕ) (W : List ℕ) → counts_of S (inserted k W) ≡ raise k (counts_of S W)
-  counts_of-inserted k [] = refl
-  counts_of-inserted k (l ∷ W) = elim (ltb k l) as (λ t. counts_of S (cond t (l ∷ inserted k W) (k ∷ l ∷ W)) ≡ raise k (raise l (counts_of S W))) [
-    | true ↦ ap (raise l) (counts_of-inserted k W) ∙ raise_comm l k (counts_of S W)
+  pub counts_of_indices-inserted : (k : ℕ) (W : List ℕ) → counts_of_indices S (inserted k W) ≡ raise k (counts_of_indices S W)
+  counts_of_indices-inserted k [] = refl
+  counts_of_indices-inserted k (l ∷ W) = elim (ltb k l) as (λ t. counts_of_indices S (cond t (l ∷ inserted k W) (k ∷ l ∷ W)) ≡ raise k (raise l (counts_of_indices S W))) [
+    | true ↦ ap (raise l) (counts_of_indices-inserted k W) ∙ raise_comm l k (counts_of_indices S W)
     | false ↦ refl
   ]
 
-  pub counts_of_length : (W : List ℕ) → all_below S.p W ≡ true → length (counts_of S W) ≡ S.p
-  counts_of_length [] h = length-replicate S.p 0
-  counts_of_length (k ∷ W) h = go (and_left (ltb k S.p) (all_below S.p W) h) (counts_of_length W (and_right (ltb k S.p) (all_below S.p W) h))
+  pub counts_of_indices_length : (W : List ℕ) → all_below S.p W ≡ true → length (counts_of_indices S W) ≡ S.p
+  counts_of_indices_length [] h = length-replicate S.p 0
+  counts_of_indices_length (k ∷ W) h = go (and_left (ltb k S.p) (all_below S.p W) h) (counts_of_indices_length W (and_right (ltb k S.p) (all_below S.p W) h))
     where
-      go : ltb k S.p ≡ true → length (counts_of S W) ≡ S.p → length (raise k (counts_of S W)) ≡ S.p
-      go e ih = raise_length k (counts_of S W) (within (ltb-true k S.p e) ih) ∙ ih
+      go : ltb k S.p ≡ true → length (counts_of_indices S W) ≡ S.p → length (raise k (counts_of_indices S W)) ≡ S.p
+      go e ih = raise_length k (counts_of_indices S W) (within (ltb-true k S.p e) ih) ∙ ih
         where
           within : {n : ℕ} → k < S.p → n ≡ S.p → k < n
           within h e = omega arith
@@ -183,12 +183,12 @@ raised_from (c ∷ J) A =
     ∙ ap (λ n. raise_all (indices_from n J) ((A ++ (c ∷ [])) ++ replicate (length J) 0)) (sym (length_one A c))
     ∙ raised_from J (A ++ (c ∷ [])) ∙ append_one A c J
 
-counts_of_all : (S : Space) (W : List ℕ) → counts_of S W ≡ raise_all W (replicate S.p 0)
-counts_of_all S [] = refl
-counts_of_all S (k ∷ W) = ap (raise k) (counts_of_all S W)
+counts_of_indices_all : (S : Space) (W : List ℕ) → counts_of_indices S W ≡ raise_all W (replicate S.p 0)
+counts_of_indices_all S [] = refl
+counts_of_indices_all S (k ∷ W) = ap (raise k) (counts_of_indices_all S W)
 
-pub counts_of-indices : (S : Space) (J : List ℕ) → length J ≡ S.p → counts_of S (indices J) ≡ J
-counts_of-indices S J h = counts_of_all S (indices J) ∙ ap (λ n. raise_all (indices J) (replicate n 0)) (sym h) ∙ raised_from J []
+pub counts_of_indices-indices : (S : Space) (J : List ℕ) → length J ≡ S.p → counts_of_indices S (indices J) ≡ J
+counts_of_indices-indices S J h = counts_of_indices_all S (indices J) ∙ ap (λ n. raise_all (indices J) (replicate n 0)) (sym h) ∙ raised_from J []
 
 -- ---- the letters are below
 all_below_append : (p : ℕ) (L M : List ℕ) → all_below p L ≡ true → all_below p M ≡ true → all_below p (L ++ M) ≡ true

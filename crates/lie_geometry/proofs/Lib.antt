@@ -19,4 +19,10 @@ pub mod Multiples
 pub mod Commutators
 pub mod Fields
 pub mod FirstOrder
+pub mod WeightedNorms
+pub mod WeightedForms
+pub mod SymbolicNorms
+pub mod AbsoluteForms
+pub mod NormLaws
+pub mod FieldNorms
 pub mod WorkedValues

@@ -14,7 +14,7 @@ use Rattle.lie_math.proofs.RingSolver.{v, ◌⊕◌, ◌⊗◌, ⊖, solve, list
 use Rattle.lie_math.proofs.SumOf.{times-sum_of}
 use Rattle.lie_geometry.specs.Coordinates.{Space, Coordinate, independent, jet, IsCoordinate, coordinates_up_to, coordinate}
 use Rattle.lie_geometry.specs.Invariance.{greatest_order, applied_prolongation, AreInvariant}
-use Rattle.lie_geometry.specs.Prolongation.{indices, jet_variable, total_derivative, counts_of, prolonged_coefficient, coefficient_at}
+use Rattle.lie_geometry.specs.Prolongation.{indices, jet_variable, total_derivative, counts_of_indices, prolonged_coefficient, coefficient_at}
 use Rattle.lie_geometry.specs.SolvedEquations.{SolvedEquation, difference, is_lead}
 use Rattle.lie_geometry.proofs.Derivations.{variable_derivative, total_as_derivation}
 use Rattle.lie_geometry.proofs.Ideals.{HaveDistinctLeads, HasMultiple, multiple_of_reduced, reduced_of_multiple, multiple_times, multiple_off}
@@ -40,7 +40,7 @@ module _ (S : Space) (m : ℤ) where
   coefficient_times V a [] = refl
   coefficient_times V a (k ∷ W) =
       ap₂ (λ x y. x +ᴾ negᴾ y) (ap (total_derivative S k) (coefficient_times V a W) ∙ total_times k (prolonged_coefficient S V a W))
-      (ap (sum_of (numbers_below S.p)) (fun_ext (λ i. ap (λ z. z *ᴾ jet_variable S a (raise i (counts_of S W))) (total_times k (V i)) ∙ *ᴾ_assoc (constant m) (total_derivative S k (V i)) (jet_variable S a (raise i (counts_of S W))))) ∙ sym (times-sum_of (numbers_below S.p) (λ i. total_derivative S k (V i) *ᴾ jet_variable S a (raise i (counts_of S W))) (constant m)))
+      (ap (sum_of (numbers_below S.p)) (fun_ext (λ i. ap (λ z. z *ᴾ jet_variable S a (raise i (counts_of_indices S W))) (total_times k (V i)) ∙ *ᴾ_assoc (constant m) (total_derivative S k (V i)) (jet_variable S a (raise i (counts_of_indices S W))))) ∙ sym (times-sum_of (numbers_below S.p) (λ i. total_derivative S k (V i) *ᴾ jet_variable S a (raise i (counts_of_indices S W))) (constant m)))
       ∙ out (constant m) _ _
 
   component_times : (V : ℕ → WholePolynomial) (c : Coordinate) → coefficient_at S (λ s. constant m *ᴾ V s) c ≡ constant m *ᴾ coefficient_at S V c
@@ -65,7 +65,7 @@ module _ (S : Space) (some_p : 0 < S.p) (some_q : 0 < S.q) where
       where
         within : a < S.q → S.p + a < S.p + S.q
         within h = omega arith
-    coefficient_same a h (k ∷ J) = ap₂ (λ x y. x +ᴾ negᴾ y) (ap (total_derivative S k) (coefficient_same a h J)) (sum_of-same S.p _ _ (λ i g. ap (λ z. total_derivative S k z *ᴾ jet_variable S a (raise i (counts_of S J))) (same i (inside i g))))
+    coefficient_same a h (k ∷ J) = ap₂ (λ x y. x +ᴾ negᴾ y) (ap (total_derivative S k) (coefficient_same a h J)) (sum_of-same S.p _ _ (λ i g. ap (λ z. total_derivative S k z *ᴾ jet_variable S a (raise i (counts_of_indices S J))) (same i (inside i g))))
 
     pub applied_same : (rs : List SolvedEquation) (r : SolvedEquation) → applied_prolongation S rs V r ≡ applied_prolongation S rs W r
     unfolding applied_prolongation

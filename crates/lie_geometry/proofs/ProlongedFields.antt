@@ -16,12 +16,12 @@ use Rattle.lie_math.proofs.Ring.{plus_idr, plus_cancel, nil_times}
 use Rattle.lie_math.proofs.RingSolver.{v, ◌⊕◌, ⊖, solve, listed}
 use Rattle.lie_math.proofs.SumOf.{sum_of-0ᴾ}
 use Rattle.lie_geometry.specs.Coordinates.{Space, Coordinate, independent, jet, IsCoordinate, number, coordinate}
-use Rattle.lie_geometry.specs.Prolongation.{indices, jet_variable, coordinate_derivative, total_derivative, counts_of, prolonged_coefficient, coefficient_at}
+use Rattle.lie_geometry.specs.Prolongation.{indices, jet_variable, coordinate_derivative, total_derivative, counts_of_indices, prolonged_coefficient, coefficient_at}
 use Rattle.lie_geometry.proofs.AbstractProlongation.{totals_commute_abstract, IsProlonged, crossed}
 use Rattle.lie_geometry.proofs.AbstractRecursion.{inserted, abstract_coefficient, coefficient_step}
 use Rattle.lie_geometry.proofs.Booleans.{and_left, and_right}
 use Rattle.lie_geometry.proofs.Derivations.{variable_derivative, total_as_derivation, field_coefficient}
-use Rattle.lie_geometry.proofs.Indices.{raise_length, all_below, all_below-inserted, counts_of-inserted, counts_of_length, indices-raise, descends_indices, counts_of-indices, below_indices}
+use Rattle.lie_geometry.proofs.Indices.{raise_length, all_below, all_below-inserted, counts_of_indices-inserted, counts_of_indices_length, indices-raise, descends_indices, counts_of_indices-indices, below_indices}
 use Rattle.lie_geometry.proofs.Numbers.{coordinate_is, coordinate-number}
 use Rattle.lie_geometry.proofs.SymbolicProlongation.{sum_of-same, number_none, coordinate_base}
 
@@ -95,16 +95,16 @@ module _ (S : Space) (some_p : 0 < S.p) (some_q : 0 < S.q) where
   module _ (a : ℕ) (in_q : a < S.q) where
     -- the jets of one dependent variable, by words
     abbrev jet_of : List ℕ → WholePolynomial
-    jet_of W = cond (all_below S.p W) (jet_variable S a (counts_of S W)) 0ᴾ
+    jet_of W = cond (all_below S.p W) (jet_variable S a (counts_of_indices S W)) 0ᴾ
 
-    jet_is : (W : List ℕ) → all_below S.p W ≡ true → IsCoordinate S (jet a (counts_of S W))
-    jet_is W h = (in_q, counts_of_length S W h)
+    jet_is : (W : List ℕ) → all_below S.p W ≡ true → IsCoordinate S (jet a (counts_of_indices S W))
+    jet_is W h = (in_q, counts_of_indices_length S W h)
 
     raises : (k : ℕ) (W : List ℕ) → derivation (next k) (jet_of W) ≡ jet_of (inserted k W)
-    raises k W = go (ltb k S.p) (all_below S.p W) refl refl ∙ sym (ap (λ t. cond t (jet_variable S a (counts_of S (inserted k W))) 0ᴾ) (all_below-inserted S.p k W) ∙ ap (λ J. cond (ltb k S.p && all_below S.p W) (jet_variable S a J) 0ᴾ) (counts_of-inserted S k W))
+    raises k W = go (ltb k S.p) (all_below S.p W) refl refl ∙ sym (ap (λ t. cond t (jet_variable S a (counts_of_indices S (inserted k W))) 0ᴾ) (all_below-inserted S.p k W) ∙ ap (λ J. cond (ltb k S.p && all_below S.p W) (jet_variable S a J) 0ᴾ) (counts_of_indices-inserted S k W))
       where
-        go : (s t : Bool) → ltb k S.p ≡ s → all_below S.p W ≡ t → derivation (λ w. cond s (variable_derivative S k w) 0ᴾ) (cond t (jet_variable S a (counts_of S W)) 0ᴾ) ≡ cond (s && t) (jet_variable S a (raise k (counts_of S W))) 0ᴾ
-        go true true e f = derivation-variable (variable_derivative S k) (number S (jet a (counts_of S W))) ∙ variable_derivative_jet k a (counts_of S W) (ltb-true k S.p e) (jet_is W f)
+        go : (s t : Bool) → ltb k S.p ≡ s → all_below S.p W ≡ t → derivation (λ w. cond s (variable_derivative S k w) 0ᴾ) (cond t (jet_variable S a (counts_of_indices S W)) 0ᴾ) ≡ cond (s && t) (jet_variable S a (raise k (counts_of_indices S W))) 0ᴾ
+        go true true e f = derivation-variable (variable_derivative S k) (number S (jet a (counts_of_indices S W))) ∙ variable_derivative_jet k a (counts_of_indices S W) (ltb-true k S.p e) (jet_is W f)
         go true false e f = derived-0ᴾ (derivation_is_derivation (variable_derivative S k))
         go false t e f = der_none _
 
@@ -113,9 +113,9 @@ module _ (S : Space) (some_p : 0 < S.p) (some_q : 0 < S.q) where
       by_words = abstract_coefficient next variables_swap (numbers_below S.p) V jet_of raises (V (S.p + a))
 
       -- the sum over the independent variables
-      sums : (k : ℕ) (W : List ℕ) → k < S.p → all_below S.p W ≡ true → sum_of (numbers_below S.p) (λ i. derivation (next k) (V i) *ᴾ jet_of (inserted i W)) ≡ sum_of (numbers_below S.p) (λ i. total_derivative S k (V i) *ᴾ jet_variable S a (raise i (counts_of S W)))
+      sums : (k : ℕ) (W : List ℕ) → k < S.p → all_below S.p W ≡ true → sum_of (numbers_below S.p) (λ i. derivation (next k) (V i) *ᴾ jet_of (inserted i W)) ≡ sum_of (numbers_below S.p) (λ i. total_derivative S k (V i) *ᴾ jet_variable S a (raise i (counts_of_indices S W)))
       sums k W h g = sum_of-same S.p _ _ (λ i f. ap₂ ◌*ᴾ◌ (next_is k h (V i)) (
-          ap (λ t. cond t (jet_variable S a (counts_of S (inserted i W))) 0ᴾ) (all_below-inserted S.p i W ∙ ap₂ ◌&&◌ (lt-ltb i S.p f) g) ∙ ap (jet_variable S a) (counts_of-inserted S i W)))
+          ap (λ t. cond t (jet_variable S a (counts_of_indices S (inserted i W))) 0ᴾ) (all_below-inserted S.p i W ∙ ap₂ ◌&&◌ (lt-ltb i S.p f) g) ∙ ap (jet_variable S a) (counts_of_indices-inserted S i W)))
 
       same_coefficient : (W : List ℕ) → all_below S.p W ≡ true → by_words W ≡ prolonged_coefficient S V a W
       unfolding prolonged_coefficient
@@ -132,7 +132,7 @@ module _ (S : Space) (some_p : 0 < S.p) (some_q : 0 < S.q) where
           sym (same_coefficient (indices (raise k J)) (below_indices S.p (raise k J) (raise_length k J (subst (λ n. k < n) (sym l) h) ∙ l)))
           ∙ ap by_words (indices-raise k J (subst (λ n. k < n) (sym l) h))
           ∙ coefficient_step next variables_swap (numbers_below S.p) V jet_of raises (V (S.p + a)) k (indices J) (descends_indices J)
-          ∙ ap₂ (λ x y. x +ᴾ negᴾ y) (next_is k h (by_words (indices J)) ∙ ap (total_derivative S k) (same_coefficient (indices J) below_J)) (sums k (indices J) h below_J ∙ ap (λ K. sum_of (numbers_below S.p) (λ i. total_derivative S k (V i) *ᴾ jet_variable S a (raise i K))) (counts_of-indices S J l)))
+          ∙ ap₂ (λ x y. x +ᴾ negᴾ y) (next_is k h (by_words (indices J)) ∙ ap (total_derivative S k) (same_coefficient (indices J) below_J)) (sums k (indices J) h below_J ∙ ap (λ K. sum_of (numbers_below S.p) (λ i. total_derivative S k (V i) *ᴾ jet_variable S a (raise i K))) (counts_of_indices-indices S J l)))
           ∙ back _ _
         where
           below_J : all_below S.p (indices J) ≡ true
@@ -187,19 +187,19 @@ module _ (S : Space) (some_p : 0 < S.p) (some_q : 0 < S.q) where
         → e (number S (jet a (raise k J))) +ᴾ sum_of (numbers_below S.p) (λ i. derivation (next k) (x i) *ᴾ next i (number S (jet a J))) ≡ derivation (next k) (e (number S (jet a J)))
     at_raised e q k a J f is = ap (λ z. z +ᴾ sum_of (numbers_below S.p) (λ i. derivation (next k) (x i) *ᴾ next i (number S (jet a J)))) (sym (ap (derivation e) (next_jet k a J f is) ∙ derivation-variable e (number S (jet a (raise k J))))) ∙ q.step k (number S (jet a J))
 
-    same_at_counts : (a : ℕ) → a < S.q → (W : List ℕ) → all_below S.p W ≡ true → c (number S (jet a (counts_of S W))) ≡ d (number S (jet a (counts_of S W)))
-    same_at_counts a f [] e = same (number S (jet a (counts_of S []))) (subst (λ n. n < S.p + S.q) (sym (number_none S some_p some_q a)) (within f))
+    same_at_counts : (a : ℕ) → a < S.q → (W : List ℕ) → all_below S.p W ≡ true → c (number S (jet a (counts_of_indices S W))) ≡ d (number S (jet a (counts_of_indices S W)))
+    same_at_counts a f [] e = same (number S (jet a (counts_of_indices S []))) (subst (λ n. n < S.p + S.q) (sym (number_none S some_p some_q a)) (within f))
       where
         within : a < S.q → S.p + a < S.p + S.q
         within f = omega arith
     same_at_counts a f (k ∷ W) e = go (and_left (ltb k S.p) (all_below S.p W) e) (same_at_counts a f W (and_right (ltb k S.p) (all_below S.p W) e)) (and_right (ltb k S.p) (all_below S.p W) e)
       where
-        go : ltb k S.p ≡ true → c (number S (jet a (counts_of S W))) ≡ d (number S (jet a (counts_of S W))) → all_below S.p W ≡ true → c (number S (jet a (raise k (counts_of S W)))) ≡ d (number S (jet a (raise k (counts_of S W))))
+        go : ltb k S.p ≡ true → c (number S (jet a (counts_of_indices S W))) ≡ d (number S (jet a (counts_of_indices S W))) → all_below S.p W ≡ true → c (number S (jet a (raise k (counts_of_indices S W)))) ≡ d (number S (jet a (raise k (counts_of_indices S W))))
         go e ih g =
-            let is : IsCoordinate S (jet a (counts_of S W)) = (f, counts_of_length S W g) in
-            let sum : WholePolynomial = sum_of (numbers_below S.p) (λ i. derivation (next k) (x i) *ᴾ next i (number S (jet a (counts_of S W)))) in
+            let is : IsCoordinate S (jet a (counts_of_indices S W)) = (f, counts_of_indices_length S W g) in
+            let sum : WholePolynomial = sum_of (numbers_below S.p) (λ i. derivation (next k) (x i) *ᴾ next i (number S (jet a (counts_of_indices S W)))) in
             plus_cancel polynomial_ring _ _ sum (
-            plus_comm terms sum (c (number S (jet a (raise k (counts_of S W))))) ∙ at_raised c h k a (counts_of S W) (ltb-true k S.p e) is ∙ ap (derivation (next k)) ih ∙ sym (at_raised d pd k a (counts_of S W) (ltb-true k S.p e) is) ∙ plus_comm terms (d (number S (jet a (raise k (counts_of S W))))) sum)
+            plus_comm terms sum (c (number S (jet a (raise k (counts_of_indices S W))))) ∙ at_raised c h k a (counts_of_indices S W) (ltb-true k S.p e) is ∙ ap (derivation (next k)) ih ∙ sym (at_raised d pd k a (counts_of_indices S W) (ltb-true k S.p e) is) ∙ plus_comm terms (d (number S (jet a (raise k (counts_of_indices S W))))) sum)
 
     pub same_prolonged : (w : ℕ) → c w ≡ d w
     unfolding number
@@ -210,4 +210,4 @@ module _ (S : Space) (some_p : 0 < S.p) (some_q : 0 < S.q) where
 
         go : (k : Coordinate) → IsCoordinate S k → number S k ≡ w → c w ≡ d w
         go (independent i) is e = same w (subst (λ n. n < S.p + S.q) e (within i is))
-        go (jet a J) is e = subst (λ n. c n ≡ d n) (ap (λ K. number S (jet a K)) (counts_of-indices S J is.1) ∙ e) (same_at_counts a is.0 (indices J) (below_indices S.p J is.1))
+        go (jet a J) is e = subst (λ n. c n ≡ d n) (ap (λ K. number S (jet a K)) (counts_of_indices-indices S J is.1) ∙ e) (same_at_counts a is.0 (indices J) (below_indices S.p J is.1))

@@ -32,9 +32,9 @@ use Rattle.lie_math.proofs.Monomial.{·_idr}
 abbrev terms_greatest : List (Monomial × ℤ) → ℕ → ℕ
 terms_greatest es w = sum_of_entries maxima (λ m a. exponent m w) es
 
--- the greatest exponent of w in a term of P
-abbrev pub greatest_exponent : WholePolynomial → ℕ → ℕ
-greatest_exponent P w = degree_in w P
+-- the degrees of P in each variable
+abbrev pub degrees_of : WholePolynomial → ℕ → ℕ
+degrees_of P w = degree_in w P
 
 -- a variable that is no lead
 exponent_other : (m : Monomial) (w l : ℕ) → eqb w l ≡ false → exponent (m · single w) l ≡ exponent m l
@@ -146,7 +146,7 @@ module _ (rs : List SolvedEquation) (e : ℕ → ℕ) where
   fits_all (r ∷ rs) m h = ap₂ ◌&&◌ (leb_of (exponent m r.lead) (e r.lead) (h r.lead)) (fits_all rs m h)
 
   -- the greatest exponents bound
-  pub bounded_greatest : (P : WholePolynomial) → ((w : ℕ) → greatest_exponent P w ≤ e w) → Bounded rs e P
+  pub bounded_greatest : (P : WholePolynomial) → ((w : ℕ) → degrees_of P w ≤ e w) → Bounded rs e P
   unfolding weigh
   bounded_greatest P h = go P.list h
     where
@@ -226,8 +226,8 @@ same_zero rs apart e f P b d z =
     right : (a b : ℕ) → b ≤ a + b
     right a b = omega arith
 
-pub bounded_reduced : (rs : List SolvedEquation) (P : WholePolynomial) → Bounded rs (greatest_exponent P) P
-bounded_reduced rs P = bounded_greatest rs (greatest_exponent P) P (λ w. itself (greatest_exponent P w))
+pub bounded_reduced : (rs : List SolvedEquation) (P : WholePolynomial) → Bounded rs (degrees_of P) P
+bounded_reduced rs P = bounded_greatest rs (degrees_of P) P (λ w. itself (degrees_of P w))
   where
     itself : (n : ℕ) → n ≤ n
     itself n = omega arith

@@ -22,7 +22,7 @@ use Rattle.lie_math.proofs.SumOf.{times-sum_of, sum_of-0ᴾ}
 use Rattle.lie_math.proofs.Variables.{in-partial}
 use Rattle.lie_geometry.specs.Coordinates.{Space, Coordinate, independent, jet, sum_below, ways, rank, jets_below, number, coordinates_up_to, coordinate}
 use Rattle.lie_geometry.specs.Invariance.{greatest_order, applied_prolongation}
-use Rattle.lie_geometry.specs.Prolongation.{is_in_z, InZ, indices, jet_variable, coordinate_derivative, total_derivative, counts_of, prolonged_coefficient, coefficient_at}
+use Rattle.lie_geometry.specs.Prolongation.{is_in_z, InZ, indices, jet_variable, coordinate_derivative, total_derivative, counts_of_indices, prolonged_coefficient, coefficient_at}
 use Rattle.lie_geometry.specs.SolvedEquations.{SolvedEquation, difference}
 use Rattle.lie_geometry.specs.SymbolicProlongation.{forms_over, unknown, symbolic_total, symbolic_coefficient, symbolic_coefficient_at, symbolic_application, field_of}
 use Rattle.lie_geometry.proofs.Derivations.{variable_derivative, total_as_derivation}
@@ -135,7 +135,7 @@ module _ (S : Space) (some_p : 0 < S.p) (some_q : 0 < S.q) where
     apply_symbolic_coefficient a (k ∷ W) =
         apply_plus F _ _ ∙ ap₂ ◌+ᴾ◌ (apply_symbolic_total k (symbolic_coefficient S a W) ∙ ap (total_derivative S k) (apply_symbolic_coefficient a W))
         (apply_times F (constant (negsuc 0)) _ ∙ ap negᴾ (apply_forms_over F (numbers_below S.p) _ ∙ ap (sum_of (numbers_below S.p)) (fun_ext (λ i.
-        apply_times F (jet_variable S a (raise i (counts_of S W))) (symbolic_total S k (unknown i)) ∙ *ᴾ_comm _ _ ∙ ap (λ z. z *ᴾ jet_variable S a (raise i (counts_of S W))) (apply_symbolic_total k (unknown i) ∙ ap (total_derivative S k) (apply_component F i))))))
+        apply_times F (jet_variable S a (raise i (counts_of_indices S W))) (symbolic_total S k (unknown i)) ∙ *ᴾ_comm _ _ ∙ ap (λ z. z *ᴾ jet_variable S a (raise i (counts_of_indices S W))) (apply_symbolic_total k (unknown i) ∙ ap (total_derivative S k) (apply_component F i))))))
 
     pub apply_symbolic_coefficient_at : (c : Coordinate) → apply F (symbolic_coefficient_at S c) ≡ coefficient_at S (field_of F) c
     apply_symbolic_coefficient_at (independent i) = apply_component F i

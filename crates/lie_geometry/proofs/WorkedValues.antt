@@ -1,20 +1,25 @@
 -- The worked values, by computing.
-use Rattle.std.specs.Prelude.{◌≡◌, zero, suc, false, [], ◌∷◌, pos, negsuc}
-use Rattle.std.proofs.Common.{refl, sym, ap, ◌∙◌, arith, true≢false}
+use Rattle.std.specs.Prelude.{◌≡◌, ℕ, zero, suc, false, cond, eqb, [], ◌∷◌, ℤ, pos, negsuc, ◌+ℤ◌, ◌*ℤ◌}
+use Rattle.std.proofs.Common.{refl, sym, ap, ap₂, ◌∙◌, arith, true≢false}
+use borrow.Author.Differences.{ints}
 use Rattle.lie_math.specs.FiniteSum as finite
 use Rattle.lie_math.specs.FiniteSumLaws as finite_laws
 use Rattle.lie_math.specs.Derivation.{derivation}
+use Rattle.lie_math.specs.Evaluation.{value_in}
+use Rattle.lie_math.specs.Integer.{integer_algebra}
+use Rattle.lie_math.proofs.Evaluation.{value_in-plus, value_in-0ᴾ, value_in-times}
 use Rattle.lie_math.specs.PartialDerivative.{partial}
-use Rattle.lie_math.specs.Polynomial.{terms, WholePolynomial, 0ᴾ, ◌*ᴾ◌, constant, variable}
+use Rattle.lie_math.specs.Polynomial.{terms, WholePolynomial, 0ᴾ, ◌+ᴾ◌, ◌*ᴾ◌, constant, variable, negᴾ}
 use Rattle.lie_math.specs.VectorField.{VectorField, component}
 use Rattle.lie_geometry.specs.Coordinates.{number, coordinate}
 use Rattle.lie_geometry.specs.DeterminingEquations.{restrict, part}
 use Rattle.lie_geometry.specs.FirstOrder.{one_of_each, first_order_equation}
 use Rattle.lie_geometry.specs.Invariance.{applied_prolongation, IsInvariant}
+use Rattle.lie_geometry.specs.InvarianceLaws.{LiesInIdeal}
 use Rattle.lie_geometry.specs.Prolongation.{total_derivative, prolonged_coefficient}
-use Rattle.lie_geometry.specs.SolvedEquations.{reduced_by, reduced}
+use Rattle.lie_geometry.specs.SolvedEquations.{difference, reduced_by, reduced}
 use Rattle.lie_geometry.specs.SymbolicProlongation.{symbolic_total, symbolic_coefficient, symbolic_application}
-use Rattle.lie_geometry.specs.WorkedValues.{written, JetNumbers, TotalOfProduct, plane_field, FieldProlonged, growth, GrowthInvariant, SymbolicProlonged, GrowthDetermined, PlaneUnknowns}
+use Rattle.lie_geometry.specs.WorkedValues.{written, JetNumbers, TotalOfProduct, plane_field, FieldProlonged, growth, GrowthInvariant, twice_is_u, halves, halves_difference, HalvesReduced, SymbolicProlonged, GrowthDetermined, PlaneUnknowns, NormBounds}
 
 pub jet_numbers : JetNumbers
 unfolding number
@@ -71,6 +76,49 @@ growth_invariant = (
   λ h. absurd (true≢false (sym (finite_laws.is_none_none terms) ∙ sym (ap (finite.is_none terms) (h 0 (first_order_equation (variable 1)) (omega arith))) ∙ shift)),
 )
 
+-- ---- the ideal of 2*u_x = u and 2*u_xx = u
+halves_reduced_list : (reduced halves halves_difference).list ≡ []
+unfolding reduced_by ◌*ᴾ◌ finite.of finite.plus finite.none finite.term finite.put
+halves_reduced_list = refl
+
+-- the value where u_x is 1 and all else is 0
+abbrev at_one : ℕ → ℤ
+at_one w = cond (eqb w 2) (pos 1) (pos 0)
+
+abbrev at_point : WholePolynomial → ℤ
+at_point = value_in integer_algebra at_one
+
+halves_at_point : (at_point halves_difference ≡ pos 1) × (at_point (difference (twice_is_u 2)) ≡ pos 2) × (at_point (difference (twice_is_u 3)) ≡ pos 0)
+unfolding value_in ◌*ᴾ◌ finite.of finite.plus finite.none finite.term finite.put
+halves_at_point = (refl, refl, refl)
+
+multiple_at_point : (p d Q : WholePolynomial) (n z : ℤ) → at_point d ≡ n → at_point Q ≡ z → at_point (p *ᴾ d +ᴾ Q) ≡ at_point p *ℤ n +ℤ z
+multiple_at_point p d Q n z e f = value_in-plus integer_algebra at_one (p *ᴾ d) Q ∙ ap₂ ◌+ℤ◌ (value_in-times integer_algebra at_one p d ∙ ap (λ y. at_point p *ℤ y) e) f
+
+one_is_odd : (x y : ℤ) → ¬ (pos 1 ≡ x *ℤ pos 2 +ℤ (y *ℤ pos 0 +ℤ pos 0))
+one_is_odd x y e = absurd (omega (arith, ints))
+
+halves_apart : ¬ (LiesInIdeal halves halves_difference)
+halves_apart h =
+    let second : at_point h.1 ≡ at_point (h.2).0 *ℤ pos 0 +ℤ pos 0 = ap at_point (h.2).3 ∙ multiple_at_point (h.2).0 _ (h.2).1 (pos 0) (pos 0) halves_at_point.2 (ap at_point (h.2).2 ∙ value_in-0ᴾ integer_algebra at_one) in
+    one_is_odd (at_point h.0) (at_point (h.2).0) (sym halves_at_point.0 ∙ ap at_point h.3 ∙ multiple_at_point h.0 _ h.1 (pos 2) _ halves_at_point.1 second)
+
+halves_first : (constant (pos 2) *ᴾ halves_difference).list ≡ (constant (pos 1) *ᴾ difference (twice_is_u 2) +ᴾ negᴾ (difference (twice_is_u 3))).list
+unfolding ◌*ᴾ◌ finite.of finite.plus finite.none finite.term finite.put
+halves_first = refl
+
+halves_second : (negᴾ (difference (twice_is_u 3))).list ≡ (constant (negsuc 0) *ᴾ difference (twice_is_u 3) +ᴾ 0ᴾ).list
+unfolding ◌*ᴾ◌ finite.of finite.plus finite.none finite.term finite.put
+halves_second = refl
+
+pub halves_reduced : HalvesReduced
+unfolding finite.none finite.of
+halves_reduced = (
+  same _ _ halves_reduced_list,
+  halves_apart,
+  (constant (pos 1), negᴾ (difference (twice_is_u 3)), (constant (negsuc 0), 0ᴾ, refl, same _ _ halves_second), same _ _ halves_first),
+)
+
 -- ---- forms
 pub symbolic_prolonged : SymbolicProlonged
 unfolding symbolic_coefficient symbolic_total total_derivative derivation coordinate number partial ◌*ᴾ◌ finite.of finite.plus finite.none finite.term finite.put
@@ -82,3 +130,8 @@ growth_determined = refl
 
 pub plane_unknowns : PlaneUnknowns
 plane_unknowns = (refl, refl)
+
+-- ---- norms
+pub norm_bounds : NormBounds
+unfolding symbolic_coefficient symbolic_total total_derivative derivation coordinate number partial ◌*ᴾ◌ finite.of finite.plus finite.none finite.term finite.put
+norm_bounds = (refl, refl, refl, refl, refl, refl)

@@ -11,4 +11,7 @@ abbrev pub commutator_component : (ℕ → WholePolynomial) → (ℕ → WholePo
 commutator_component V W s = derivation V (W s) +ᴾ negᴾ (derivation W (V s))
 
 abbrev pub commutator : Space → VectorField → VectorField → VectorField
-commutator S V W = record { denominator = V.denominator * W.denominator; parts = map (commutator_component (component V) (component W)) (range_with_len 0 (S.p + S.q)) }
+commutator S V W = record {
+  denominator = V.denominator * W.denominator;
+  parts = map (commutator_component (component V) (component W)) (range_with_len 0 (S.p + S.q));
+}

@@ -4,7 +4,8 @@ use Rattle.lie_math.specs.Counts.{order, raise}
 use Rattle.lie_math.specs.Derivation.{IsDerivation}
 use Rattle.lie_math.specs.PartialDerivative.{partial}
 use Rattle.lie_math.specs.Polynomial.{WholePolynomial, variable}
-use Rattle.lie_geometry.specs.Coordinates.{Space, Coordinate, independent, jet, IsCoordinate, order_of, number, coordinates_up_to, coordinate}
+use Rattle.lie_geometry.specs.Coordinates.{Space, Coordinate, independent, jet, IsCoordinate}
+use Rattle.lie_geometry.specs.Coordinates.{order_of, number, coordinates_up_to, coordinate}
 use Rattle.lie_geometry.specs.Prolongation.{jet_variable, total_derivative}
 
 -- a space has variables of both kinds
@@ -14,7 +15,8 @@ IsSpace S = (0 < S.p) × (0 < S.q)
 -- number and coordinate are each other's inverse
 abbrev pub NumbersAreInverse : Type 0
 NumbersAreInverse = (S : Space) → IsSpace S →
-    ((w : ℕ) → IsCoordinate S (coordinate S w) × (number S (coordinate S w) ≡ w)) × ((c : Coordinate) → IsCoordinate S c → coordinate S (number S c) ≡ c)
+    ((w : ℕ) → IsCoordinate S (coordinate S w) × (number S (coordinate S w) ≡ w))
+    × ((c : Coordinate) → IsCoordinate S c → coordinate S (number S c) ≡ c)
 
 -- lexicographically greater
 abbrev pub GreaterCounts : List ℕ → List ℕ → Type 0
@@ -38,10 +40,12 @@ OrdersAreBelow = (S : Space) → IsSpace S → (w n : ℕ) → order_of (coordin
 
 -- up to 4 variables of each kind, and up to order 12
 abbrev pub NumbersAreSmall : Type 0
-NumbersAreSmall = (S : Space) → IsSpace S → S.p ≤ 4 → S.q ≤ 4 → (a : ℕ) (J : List ℕ) → IsCoordinate S (jet a J) → order J ≤ 12 → number S (jet a J) < 7284
+NumbersAreSmall = (S : Space) → IsSpace S → S.p ≤ 4 → S.q ≤ 4 → (a : ℕ) (J : List ℕ) → IsCoordinate S (jet a J) → order J ≤ 12 →
+    number S (jet a J) < 7284
 
 abbrev pub TotalsCommute : Type 0
-TotalsCommute = (S : Space) → IsSpace S → (i j : ℕ) → i < S.p → j < S.p → (P : WholePolynomial) → total_derivative S i (total_derivative S j P) ≡ total_derivative S j (total_derivative S i P)
+TotalsCommute = (S : Space) → IsSpace S → (i j : ℕ) → i < S.p → j < S.p → (P : WholePolynomial) →
+    total_derivative S i (total_derivative S j P) ≡ total_derivative S j (total_derivative S i P)
 
 abbrev pub TotalsAreDerivations : Type 0
 TotalsAreDerivations = (S : Space) (i : ℕ) → IsDerivation (total_derivative S i)
@@ -49,4 +53,5 @@ TotalsAreDerivations = (S : Space) (i : ℕ) → IsDerivation (total_derivative 
 -- of an independent variable 1 or 0, and of a jet the jet derived once more
 abbrev pub TotalsOfCoordinates : Type 0
 TotalsOfCoordinates = (S : Space) → IsSpace S → (i : ℕ) → i < S.p →
-    ((j : ℕ) → j < S.p → total_derivative S i (variable j) ≡ partial i (variable j)) × ((a : ℕ) (J : List ℕ) → IsCoordinate S (jet a J) → total_derivative S i (jet_variable S a J) ≡ jet_variable S a (raise i J))
+    ((j : ℕ) → j < S.p → total_derivative S i (variable j) ≡ partial i (variable j))
+    × ((a : ℕ) (J : List ℕ) → IsCoordinate S (jet a J) → total_derivative S i (jet_variable S a J) ≡ jet_variable S a (raise i J))

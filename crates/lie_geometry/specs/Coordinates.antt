@@ -1,4 +1,5 @@
--- Jet coordinates and their numbers: the independent variables, the dependent variables, and then the jets of order 1, of order 2 and so on; within an order by dependent variable, and then by counts, the lexicographically greater first.
+-- Jet coordinates and their numbers: the independent variables, the dependent variables, and then the jets of order 1, of order 2 and so
+-- on; within an order by dependent variable, and then by counts, the lexicographically greater first.
 use Rattle.std.specs.Prelude.{◌≡◌, ℕ, zero, suc, ◌+◌, ◌*◌, ◌-◌, ◌<◌, cond, List, [], ◌∷◌, length, eqb, ltb, leb}
 use Rattle.lie_math.specs.Counts.{order}
 
@@ -57,11 +58,14 @@ seek f r (suc n) = cond (leb (f (suc n)) r) (suc n) (seek f r n)
 -- the p counts with the sum n and the rank r
 abbrev pub unrank : ℕ → ℕ → ℕ → List ℕ
 unrank zero n r = []
-unrank (suc p) n r = (n - seek (sum_below (ways p)) r n) ∷ unrank p (seek (sum_below (ways p)) r n) (r - sum_below (ways p) (seek (sum_below (ways p)) r n))
+unrank (suc p) n r =
+    (n - seek (sum_below (ways p)) r n) ∷ unrank p (seek (sum_below (ways p)) r n) (r - sum_below (ways p) (seek (sum_below (ways p)) r n))
 
 -- the r-th jet of order n
 abbrev pub nth_of_order : Space → ℕ → ℕ → Coordinate
 nth_of_order S n r = jet (seek (λ a. a * ways S.p n) r S.q) (unrank S.p n (r - seek (λ a. a * ways S.p n) r S.q * ways S.p n))
 
 unfoldable pub coordinate : Space → ℕ → Coordinate
-coordinate S w = cond (ltb w S.p) (independent w) (let r : ℕ = w - S.p in let n : ℕ = seek (jets_below S) r r in nth_of_order S n (r - jets_below S n))
+coordinate S w = cond (ltb w S.p)
+    (independent w)
+    (let r : ℕ = w - S.p in let n : ℕ = seek (jets_below S) r r in nth_of_order S n (r - jets_below S n))

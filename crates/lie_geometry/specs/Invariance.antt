@@ -15,15 +15,31 @@ greatest_order S (equation ∷ equations) = max (order_of (coordinate S (bound (
 
 -- the prolonged field applied to an equation, term by term over the coordinates up to the greatest order
 unfoldable pub applied_prolongation : Space → List SolvedEquation → (ℕ → WholePolynomial) → SolvedEquation → WholePolynomial
-applied_prolongation S equations V equation = sum_of (numbers_below (coordinates_up_to S (greatest_order S equations))) (λ w. coefficient_at S V (coordinate S w) *ᴾ partial w (difference equation))
+applied_prolongation S equations V equation = sum_of (numbers_below (coordinates_up_to S (greatest_order S equations)))
+    (λ w. coefficient_at S V (coordinate S w) *ᴾ partial w (difference equation))
 
--- the invariance condition, of components: the prolonged field applied to each equation is reduced to 0
+-- what the equations leave of a polynomial
+abbrev pub Reduction : Type 0
+Reduction = Space → List SolvedEquation → WholePolynomial → WholePolynomial
+
+-- by the equations as relations between jets, and not by what follows from them when they are derived
+abbrev pub by_equations : Reduction
+by_equations S equations P = reduced equations P
+
+-- the invariance condition by a reduction, of components: the prolonged field applied to each equation is reduced to 0
+abbrev pub AreInvariantBy : Reduction → Space → List SolvedEquation → (ℕ → WholePolynomial) → Type 0
+AreInvariantBy reduction S equations V =
+    All (λ equation. reduction S equations (applied_prolongation S equations V equation) ≡ 0ᴾ) equations
+
 abbrev pub AreInvariant : Space → List SolvedEquation → (ℕ → WholePolynomial) → Type 0
-AreInvariant S equations V = All (λ equation. reduced equations (applied_prolongation S equations V equation) ≡ 0ᴾ) equations
+AreInvariant = AreInvariantBy by_equations
 
 -- of a field: its denominator times it has the components `component V`
+abbrev pub IsInvariantBy : Reduction → Space → List SolvedEquation → VectorField → Type 0
+IsInvariantBy reduction S equations V = AreInvariantBy reduction S equations (component V)
+
 abbrev pub IsInvariant : Space → List SolvedEquation → VectorField → Type 0
-IsInvariant S equations V = AreInvariant S equations (component V)
+IsInvariant = IsInvariantBy by_equations
 
 -- a field on the space: a component for each of the variables z, in these variables alone
 pub record IsFieldOn (S : Space) (V : VectorField) : Type 0 where

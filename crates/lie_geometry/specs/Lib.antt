@@ -9,4 +9,8 @@ pub mod FirstOrder
 pub mod CoordinateLaws
 pub mod ProlongationLaws
 pub mod InvarianceLaws
+pub mod Norms
+pub mod SymbolicNorms
+pub mod FieldNorms
+pub mod NormLaws
 pub mod WorkedValues

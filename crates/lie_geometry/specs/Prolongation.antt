@@ -1,4 +1,5 @@
--- Total derivatives and prolonged fields. A variable of a polynomial is the number of a coordinate; V s is the component of a field at the s-th of the variables z, the independent and then the dependent ones.
+-- Total derivatives and prolonged fields. A variable of a polynomial is the number of a coordinate; V s is the component of a field at
+-- the s-th of the variables z, the independent and then the dependent ones.
 use Rattle.std.specs.Prelude.{ℕ, suc, ◌+◌, Bool, List, [], ◌∷◌, ◌++◌, replicate}
 use Rattle.lie_math.specs.Counts.{raise}
 use Rattle.lie_math.specs.Derivation.{sum_of, numbers_below, is_below, derivation}
@@ -37,15 +38,16 @@ module _ (S : Space) where
   unfoldable pub total_derivative : ℕ → WholePolynomial → WholePolynomial
   total_derivative i P = partial i P +ᴾ derivation (λ w. coordinate_derivative i (coordinate S w)) P
 
-  -- the counts of a list of variables
-  abbrev pub counts_of : List ℕ → List ℕ
-  counts_of [] = replicate S.p 0
-  counts_of (k ∷ W) = raise k (counts_of W)
+  -- how often each variable stands in a list of indices
+  abbrev pub counts_of_indices : List ℕ → List ℕ
+  counts_of_indices [] = replicate S.p 0
+  counts_of_indices (k ∷ W) = raise k (counts_of_indices W)
 
   -- the prolonged coefficient of the dependent variable a, by its variables of derivation
   unfoldable pub prolonged_coefficient : (ℕ → WholePolynomial) → ℕ → List ℕ → WholePolynomial
   prolonged_coefficient V a [] = V (S.p + a)
-  prolonged_coefficient V a (k ∷ W) = total_derivative k (prolonged_coefficient V a W) +ᴾ negᴾ (sum_of (numbers_below S.p) (λ i. total_derivative k (V i) *ᴾ jet_variable a (raise i (counts_of W))))
+  prolonged_coefficient V a (k ∷ W) = total_derivative k (prolonged_coefficient V a W) +ᴾ negᴾ (sum_of (numbers_below S.p)
+      (λ i. total_derivative k (V i) *ᴾ jet_variable a (raise i (counts_of_indices W))))
 
   abbrev pub coefficient_at : (ℕ → WholePolynomial) → Coordinate → WholePolynomial
   coefficient_at V (independent i) = V i

@@ -41,10 +41,17 @@ replacement (equation ∷ equations) w = cond (eqb w equation.lead) equation.rig
 -- the product of each equation's factor to the power e - m, for the exponents e given and m in the monomial of its lead
 abbrev pub missing_powers : List SolvedEquation → (ℕ → ℕ) → Monomial → ℤ
 missing_powers [] e m = pos 1
-missing_powers (equation ∷ equations) e m = to_power integer_algebra equation.factor (e equation.lead - exponent m equation.lead) *ℤ missing_powers equations e m
+missing_powers (equation ∷ equations) e m =
+    to_power integer_algebra equation.factor (e equation.lead - exponent m equation.lead) *ℤ missing_powers equations e m
+
+-- the power product of the factors, with the exponents that e has at their leads
+abbrev pub factor_powers : List SolvedEquation → (ℕ → ℕ) → ℤ
+factor_powers [] e = pos 1
+factor_powers (equation ∷ equations) e = to_power integer_algebra equation.factor (e equation.lead) *ℤ factor_powers equations e
 
 unfoldable pub reduced_by : List SolvedEquation → (ℕ → ℕ) → WholePolynomial → WholePolynomial
-reduced_by equations e P = over_terms (λ m a. constant (a *ℤ missing_powers equations e m) *ᴾ monomial_value polynomial_algebra (replacement equations) m) P
+reduced_by equations e P =
+    over_terms (λ m a. constant (a *ℤ missing_powers equations e m) *ᴾ monomial_value polynomial_algebra (replacement equations) m) P
 
 -- each lead replaced, and each term multiplied so that all have the same power of each factor
 abbrev pub reduced : List SolvedEquation → WholePolynomial → WholePolynomial

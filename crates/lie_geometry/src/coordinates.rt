@@ -7,7 +7,8 @@ pub fn numbers_are_inverse()
     ensures { NumbersAreInverse }
 {}
 
-/// Numbers go by the printed order: the independent variables, then by order, by dependent variable, and the lexicographically greater counts first.
+/// Numbers go by the printed order: the independent variables, then by order, by dependent variable, and the lexicographically greater
+/// counts first.
 pub fn numbers_rise()
     ensures { NumbersRise }
 {}

@@ -1,8 +1,10 @@
 //! Reduction by a solved system and the infinitesimal condition of invariance (Olver, sections 2.2 and 2.3).
 
-ghost use Rattle.lie_geometry.specs.InvarianceLaws.{CommutatorIsInvariant, FirstOrderIsInvariant, MultiplesAreInvariant, ReducedIsInIdeal, SameFieldsAreInvariant};
+ghost use Rattle.lie_geometry.specs.InvarianceLaws.{CommutatorIsInvariant, FirstOrderIsInvariant, MultiplesAreInvariant};
+ghost use Rattle.lie_geometry.specs.InvarianceLaws.{ReducedIsInIdeal, SameFieldsAreInvariant};
 
-/// A polynomial is reduced to 0 exactly if a multiple of it, by a number that is not 0, is a sum of multiples of the equations' differences.
+/// A polynomial is reduced to 0 exactly if a power product of the factors of the leads, times the polynomial, is a sum of multiples of
+/// the equations' differences; where any number that is not 0 makes it one, such a power product does.
 pub fn reduced_is_in_ideal()
     ensures { ReducedIsInIdeal }
 {}

@@ -1,8 +1,10 @@
 //! Prolonged fields (Olver, section 2.3) and their commutators (section 1.3).
 
-ghost use Rattle.lie_geometry.specs.ProlongationLaws.{AppliedIsField, CommutatorIsProlonged, FieldCrossesTotal, RecursionHolds, SymbolicIsProlongation};
+ghost use Rattle.lie_geometry.specs.ProlongationLaws.{AppliedIsField, CommutatorIsProlonged, FieldCrossesTotal};
+ghost use Rattle.lie_geometry.specs.ProlongationLaws.{RecursionHolds, SymbolicIsProlongation};
 
-/// The recursion `phi^a_(J+e_k) = D_k phi^a_J - sum over i of (D_k xi^i) * u^a_(J+e_i)` holds for each k: the order of the indices does not matter.
+/// The recursion `phi^a_(J+e_k) = D_k phi^a_J - sum over i of (D_k xi^i) * u^a_(J+e_i)` holds for each k: the order of the indices does
+/// not matter.
 pub fn recursion_holds()
     ensures { RecursionHolds }
 {}

@@ -7,10 +7,10 @@ use Rattle.lie_math.specs.FiniteSum as finite
 use Rattle.lie_math.specs.FiniteSumLaws as finite_laws
 use Rattle.lie_math.specs.Limits.{FitsNumber, HasLowExponents, IsWithinLimits, absolutes, absolute}
 use Rattle.lie_poly.specs.Bulk.{AreWithin}
-use Rattle.lie_math.specs.Monomial.{Monomial, powers, exponent, single}
-use Rattle.lie_math.specs.Polynomial.{WholePolynomial, terms, term, polynomial_of}
+use Rattle.lie_math.specs.Monomial.{Monomial, powers, exponent, single, unit}
+use Rattle.lie_math.specs.Polynomial.{WholePolynomial, terms, term, constant, polynomial_of}
 use Rattle.lie_math.proofs.FiniteSum.{entries_of}
-use Rattle.lie_math.proofs.Limits.{canonical_absolutes, length-absolutes}
+use Rattle.lie_math.proofs.Limits.{canonical_absolutes, length-absolutes, term_is}
 use Rattle.lie_poly.proofs.BulkLists.{limits_of}
 use Rattle.lie_ring.specs.Causes.{IsCause}
 use Rattle.lie_ring.specs.declared.failures.PastKind.TheVariants.{Coefficient, Exponent, Terms, Order, Unknowns, Width}
@@ -70,6 +70,14 @@ low_single v w = subst (λ n. n ≤ 65535) (sym (finite_laws.value-term powers v
     by true = omega arith
     by false = omega arith
 
+-- ---- the number 1
+low_unit : HasLowExponents unit
+low_unit w = subst (λ n. n ≤ 65535) (sym (finite_laws.value-none powers w)) (omega arith)
+
+pub one_within : IsWithinLimits (constant (pos 1))
+one_within = subst IsWithinLimits (sym (term_is unit (pos 1))) (limits_of ((unit, pos 1) ∷ []) tt (lit< tt, low_unit, tt) (omega arith))
+
+-- ---- a variable
 pub variable_sum : (v : ℕ) (z : ℤ) (m : Monomial) (xs : List (Monomial × ℤ)) → m ≡ single v → xs ≡ (m, z) ∷ [] → sum_listed xs ≡ term (single v) z
 unfolding finite.term
 variable_sum v z m xs e h = ap sum_listed h ∙ ap (λ n. polynomial_of ((n, z) ∷ [])) e

@@ -1,8 +1,6 @@
--- The total derivative of a polynomial is bounded by that of its absolute values, and so are the parts of the total derivative of a form.
+-- The total derivative of a polynomial is bounded by that of its absolute values.
 use Rattle.std.specs.Prelude.{◌≡◌, ℕ, ◌<◌, List, [], ◌∷◌, Option, Some, None, ℤ, pos, ◌*ℤ◌, unsigned_abs}
 use Rattle.std.proofs.Common.{sym, ap, subst, subst₂, ◌∙◌, arith}
-use Rattle.lie_math.specs.Counts.{Derivative, raised}
-use Rattle.lie_math.specs.Derivation.{numbers_below}
 use Rattle.lie_math.specs.FiniteSumLaws.{of_list}
 use Rattle.lie_math.specs.Limits.{absolute, absolutes}
 use Rattle.lie_math.specs.Monomial.{Monomial, single, ◌·◌}
@@ -21,9 +19,8 @@ use Rattle.lie_geometry.specs.Prolongation.{total_derivative}
 use Rattle.lie_geometry.proofs.Derivations.{total_is_derivation}
 use Rattle.lie_jet.specs.Jets.{IsSmall}
 use Rattle.lie_jet.specs.Slopes.{IsSlope}
-use Rattle.lie_jet.specs.FormTotals.{dependent_term, derived_term, total_of_term}
 use Rattle.lie_jet.proofs.ChainRules.{part}
-use Rattle.lie_jet.proofs.FormBounds.{IsBound, sum_bound, none_bound, absolute_bound, IsFormBound, form_sum, form_one, over_bound}
+use Rattle.lie_jet.proofs.PolynomialBounds.{IsBound, sum_bound, none_bound}
 use Rattle.lie_jet.proofs.TotalParts.{slope, some_slope, total_term}
 use Rattle.lie_jet.proofs.TotalSteps.{size_times}
 use Rattle.lie_math.specs.Integer.{*ℤ-idl}
@@ -88,13 +85,3 @@ module _ (S : Space) (small : IsSmall S) (i : ℕ) (inside : i < S.p) where
   pub total_bound : (a : WholePolynomial) → IsBound (total_derivative S i a) (total_derivative S i (absolute a))
   unfolding absolute
   total_bound a = subst (λ p. IsBound (total_derivative S i p) (total_derivative S i (polynomial_of (absolutes a.list)))) (of_list terms a) (of_terms a.list)
-
-  -- ---- the parts of the total derivative of a form
-  pub dependent_bound : (d : Derivative) (a : WholePolynomial) (b : ℕ) → IsFormBound (dependent_term S i d a b) (dependent_term S i d (absolute a) b)
-  dependent_bound d a b = form_one _ _ _ (product_bound _ a)
-
-  pub derived_bound : (d : Derivative) (a : WholePolynomial) → IsFormBound (derived_term S i d a) (derived_term S i d (absolute a))
-  derived_bound d a = form_sum _ _ _ _ (form_one (raised i d) a (absolute a) (absolute_bound a)) (over_bound (dependent_term S i d a) (dependent_term S i d (absolute a)) (numbers_below S.q) (dependent_bound d a))
-
-  pub term_total_bound : (d : Derivative) (a : WholePolynomial) → IsFormBound (total_of_term S i d a) (total_of_term S i d (absolute a))
-  term_total_bound d a = form_sum _ _ _ _ (form_one d (total_derivative S i a) (total_derivative S i (absolute a)) (total_bound a)) (derived_bound d a)

@@ -6,7 +6,7 @@ use borrow.Author.Differences.{ints}
 use Rattle.lie_math.specs.FiniteSum as finite
 use Rattle.lie_math.specs.FiniteSumLaws.{same_list, list-of}
 use Rattle.lie_math.specs.Limits.{absolutes}
-use Rattle.lie_ring.specs.Limits.{HasWideCoefficient}
+use Rattle.lie_math.specs.Limits.{HasWideCoefficient}
 use Rattle.lie_math.specs.Monomial.{Monomial, powers, ◌·◌, single}
 use Rattle.lie_math.specs.MonomialOrder.{·_comm}
 use Rattle.lie_math.specs.Polynomial.{WholePolynomial, terms, term, 0ᴾ, polynomial_of, ◌+ᴾ◌, ◌*ᴾ◌}
@@ -75,6 +75,10 @@ pub no_slope : (p t d : WholePolynomial) → 0ᴾ ≡ d → p ≡ p +ᴾ d *ᴾ 
 no_slope p t d e = sym (ap (λ x. p +ᴾ x *ᴾ t) (sym e) ∙ ap (λ x. p +ᴾ x) (0ᴾ-*ᴾ t) ∙ plus_idr polynomial_ring p)
 
 -- ---- answers
+pub always : {A E : Type 0} {B : Type 0} (r : Result A E) → B → OnOk r B
+always (Ok a) b = b
+always (Err e) b = tt
+
 pub on_ok : {V E : Type 0} {A B : Type 0} (r : Result V E) → (A → B) → OnOk r A → OnOk r B
 on_ok (Ok v) f h = f h
 on_ok (Err e) f h = tt

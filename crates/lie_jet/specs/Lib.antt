@@ -2,6 +2,6 @@ pub mod Jets
 pub mod Slopes
 pub mod Listed
 pub mod Derivatives
-pub mod FormLimits
-pub mod FormTotals
 pub mod ValidFields
+pub mod JetLists
+pub mod Lowered

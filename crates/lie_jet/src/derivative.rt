@@ -1,6 +1,6 @@
 // Derivatives of unknown functions.
 ghost use Rattle.std.specs.Prelude.{◌≡◌, ◌<◌, slice_index};
-ghost use Rattle.lie_math.specs.Counts.{derivative_cmp, raised};
+ghost use Rattle.lie_math.specs.Counts.{derivative_cmp, order, raised};
 ghost use Rattle.lie_jet.specs.Derivatives.{derivative_of};
 
 use crate::ranks::sum_of_counts;
@@ -24,6 +24,13 @@ pub fn compare_derivatives(left: &Der, right: &Der) -> Ordering
     let unknown = right.unknown.cmp(&left.unknown);
     let counts = right.counts.as_slice().cmp(&left.counts.as_slice());
     order.then(unknown.then(counts))
+}
+
+/// How often the function is derived, by all variables.
+pub fn order_of_derivative(der: &Der) -> u32
+    ensures { result ≡ order (derivative_of der.now).counts }
+{
+    sum_of_counts(&der.counts)
 }
 
 /// The function derived once more, by the variable `i`, which is below 8.

@@ -26,7 +26,8 @@ pub fn jet_number(space: Space, jet: &Jet) -> u32
 
 /// The jet with a number; None exactly where the number is that of an independent variable or of a jet of an order past 12.
 pub fn jet_of(space: Space, number: u32) -> Option<Jet>
-    ensures jet { MatchOption result ((number < space.p) ⊎ (coordinates_up_to space 12 ≤ number)) (λ j. IsJet space 12 j × (coordinate space number ≡ coordinate_of space j)) }
+    ensures jet { MatchOption result ((number < space.p) ⊎ (coordinates_up_to space 12 ≤ number))
+        (λ j. IsJet space 12 j × (coordinate space number ≡ coordinate_of space j)) }
     ensures inverse { (j : Jet) → IsJet space 12 j → number_of space (coordinate_of space j) ≡ number → result ≡ Some j }
     ensures small { IsSmall space }
 {

@@ -54,8 +54,8 @@ pub fn single(alloc: Global, var: u32) -> Result<Mono, PolyFail>
     ensures single { IfOk result (λ mono. mono ≡ variable_alone var) }
     ensures memory { IfErr result IsStarved }
 {
-    match Mono::new(alloc, &[(var, 1)]) {
-        Ok(Some(mono)) => Ok(mono),
-        _ => Err(PolyFail::NoMemory),
+    match Mono::new(alloc, &[(var, 1)])? {
+        Some(mono) => Ok(mono),
+        None => unreachable!(),
     }
 }

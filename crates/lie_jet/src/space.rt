@@ -1,4 +1,6 @@
 // The numbers of variables.
+ghost use Rattle.lie_jet.specs.Jets.{IsSmall};
+
 use std::marker::Model;
 
 /// The numbers of independent and of dependent variables, 1 to 4 each.
@@ -21,4 +23,11 @@ impl Model for Space {
     ghost invariant = { λ s. (1 ≤ s.p) × (s.p ≤ 4) × (1 ≤ s.q) × (s.q ≤ 4) };
 
     ghost inverse = { λ s. record { p = s.p; q = s.q } };
+}
+
+/// A space has 1 to 4 variables of each kind, which becomes known where this is called.
+pub fn space_is_small(space: Space)
+    ensures { IsSmall space }
+{
+    let _ = &space.p;
 }

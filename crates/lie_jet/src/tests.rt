@@ -1,16 +1,16 @@
-// Numbers of jets, total derivatives and forms, as tables.
+// Numbers of jets and total derivatives, as tables.
 ghost use Rattle.std.specs.Prelude.{IsTrue, IfOk};
 ghost use Rattle.lie_math.specs.Derivation.{is_below};
 ghost use Rattle.lie_math.specs.Variables.{IsIn};
 ghost use Rattle.lie_math.proofs.Kept.{pairs_in};
 
-use crate::derivative::raise_derivative;
 use crate::{
-    Der, Field, Jet, JetPoly, Space, SymForm, absolute_polynomial, absolute_value, jet_number,
-    jet_of, total, total_sym,
+    Der, Field, Jet, JetPoly, Space, absolute_polynomial, absolute_value, compare_derivatives,
+    jet_number, jet_of, jets_up_to, raise_derivative, total,
 };
 use lie_ring::{Mono, PastKind, PolyFail, Polynomial, Ring, Whole};
 use std::alloc::Global;
+use std::cmp::Ordering;
 use std::test::Fail;
 
 #[test]
@@ -46,6 +46,31 @@ fn greater_counts_first(rt: HostRuntime) -> Result<(), Fail> {
         };
         assert_eq!(rt; jet_of(space, *number), Some(jet));
     }
+    Ok(())
+}
+
+#[test]
+fn jets_in_order(rt: HostRuntime) -> Result<(), Fail> {
+    let alloc = rt.alloc();
+    let jets = jets_up_to(alloc, Space { p: 2, q: 2 }, 1)?;
+    assert_eq!(rt; jets.len(), 6);
+    assert_eq!(rt; jets[1].dep, 1);
+    assert_eq!(rt; jets[3].counts, [0, 1, 0, 0]);
+    Ok(())
+}
+
+#[test]
+fn greatest_derivative_first(rt: HostRuntime) -> Result<(), Fail> {
+    let plain = Der {
+        unknown: 2,
+        counts: [0; 8],
+    };
+    let by_first = raise_derivative(&plain, 0);
+    let by_second = raise_derivative(&plain, 1);
+    assert_eq!(rt; by_first.counts, [1, 0, 0, 0, 0, 0, 0, 0]);
+    assert_eq!(rt; compare_derivatives(&by_first, &plain), Ordering::Less);
+    assert_eq!(rt; compare_derivatives(&by_first, &by_second), Ordering::Less);
+    assert_eq!(rt; compare_derivatives(&plain, &plain), Ordering::Equal);
     Ok(())
 }
 
@@ -115,71 +140,12 @@ fn number(alloc: Global, c: i128) -> Result<JetPoly, Fail> {
 }
 
 #[test]
-fn greatest_derivative_first(rt: HostRuntime) -> Result<(), Fail> {
-    let alloc = rt.alloc();
-    let lesser = Der {
-        unknown: 2,
-        counts: [0; 8],
-    };
-    let greater = Der {
-        unknown: 1,
-        counts: [1, 0, 0, 0, 0, 0, 0, 0],
-    };
-    let mut form = SymForm::zero(alloc);
-    form.put(alloc, lesser, number(alloc, 1)?)?;
-    form.put(alloc, greater, number(alloc, 2)?)?;
-    form.put(alloc, lesser, number(alloc, 3)?)?;
-    assert_eq!(rt; form.terms().len(), 2);
-    for (term, want) in form.terms().iter().zip(&[(greater, 2), (lesser, 4)]) {
-        assert_eq!(rt; term.0, want.0);
-        assert!(rt; has_terms(alloc, &term.1, &[(&[], want.1)]));
-    }
-    Ok(())
-}
-
-#[test]
 fn fields_keep_their_parts(rt: HostRuntime) -> Result<(), Fail> {
     let alloc = rt.alloc();
     let field = Field::new(2, vec![in alloc; number(alloc, 3)?]?);
     assert_eq!(rt; field.den(), 2);
     assert_eq!(rt; field.parts().len(), 1);
     assert_eq!(rt; field.into_parts().len(), 1);
-    Ok(())
-}
-
-/// The second unknown.
-const SECOND: Der = Der {
-    unknown: 2,
-    counts: [0; 8],
-};
-
-/// The total derivative by x of a polynomial times the second unknown.
-fn form_total(alloc: Global, p: JetPoly) -> Result<SymForm, PolyFail>
-    requires { IsIn (is_below 13) p }
-{
-    let mut form = SymForm::zero(alloc);
-    form.put(alloc, SECOND, p)?;
-    total_sym(alloc, PLANE, 0, &form)
-}
-
-#[test]
-fn total_of_a_form(rt: HostRuntime) -> Result<(), Fail> {
-    let alloc = rt.alloc();
-    let derived = form_total(alloc, product(alloc, &[(0, 1), (1, 1)])?)?;
-    let terms = derived.terms();
-    assert_eq!(rt; terms.len(), 3);
-    assert_eq!(rt; terms[0].0, raise_derivative(&SECOND, 0));
-    assert!(rt; has_terms(alloc, &terms[0].1, &[(&[(0, 1), (1, 1)], 1)]));
-    assert_eq!(rt; terms[1].0, raise_derivative(&SECOND, 1));
-    assert!(rt; has_terms(alloc, &terms[1].1, &[(&[(0, 1), (1, 1), (2, 1)], 1)]));
-    assert_eq!(rt; terms[2].0, SECOND);
-    assert!(rt;
-        has_terms(
-            alloc,
-            &terms[2].1,
-            &[(&[(0, 1), (2, 1)], 1), (&[(1, 1)], 1)]
-        )
-    );
     Ok(())
 }
 
@@ -199,51 +165,6 @@ fn absolute_values(rt: HostRuntime) -> Result<(), Fail> {
 /// 2^126, of which two are past the limit on numbers.
 const HALF: i128 = 1 << 126;
 
-/// Whether a second number is past beside the first at the same derivative, where the form is as it was.
-fn is_past(alloc: Global, first: i128, second: i128) -> Result<bool, Fail> {
-    let mut form = SymForm::zero(alloc);
-    form.put(alloc, SECOND, number(alloc, first)?)?;
-    let fail = form.put(alloc, SECOND, number(alloc, second)?).err();
-    let terms = form.terms();
-    Ok(
-        fail == Some(PolyFail::Past(PastKind::Coefficient))
-            && terms.len() == 1
-            && has_terms(alloc, &terms[0].1, &[(&[], first)]),
-    )
-}
-
-/// Whether two numbers at the same derivative have this sum.
-fn is_sum(alloc: Global, first: i128, second: i128, sum: i128) -> Result<bool, Fail> {
-    let mut form = SymForm::zero(alloc);
-    form.put(alloc, SECOND, number(alloc, first)?)?;
-    form.put(alloc, SECOND, number(alloc, second)?)?;
-    let terms = form.terms();
-    Ok(terms.len() == 1 && has_terms(alloc, &terms[0].1, &[(&[], sum)]))
-}
-
-#[test]
-fn absolute_values_are_added(rt: HostRuntime) -> Result<(), Fail> {
-    let alloc = rt.alloc();
-    let past = [
-        (HALF, HALF),
-        (i128::MAX, -1),
-        (-i128::MAX, 1),
-        (HALF, -HALF),
-    ];
-    for (first, second) in past.iter() {
-        assert!(rt; is_past(alloc, *first, *second)?);
-    }
-    let within = [
-        (HALF, HALF - 1, i128::MAX),
-        (-HALF, HALF - 1, -1),
-        (1 - i128::MAX, 1, 2 - i128::MAX),
-    ];
-    for (first, second, sum) in within.iter() {
-        assert!(rt; is_sum(alloc, *first, *second, *sum)?);
-    }
-    Ok(())
-}
-
 /// A multiple of u^2.
 fn square(alloc: Global, c: i128) -> Result<JetPoly, Fail>
     ensures { IfOk result (λ p. IsIn (is_below 13) p) }
@@ -259,8 +180,6 @@ fn totals_past_the_limit(rt: HostRuntime) -> Result<(), Fail> {
     for (c, want) in [(HALF, past), (-HALF, past), (HALF - 1, None)].iter() {
         let polynomial = total(alloc, PLANE, 0, &square(alloc, *c)?);
         assert_eq!(rt; polynomial.err(), *want);
-        let form = form_total(alloc, square(alloc, *c)?);
-        assert_eq!(rt; form.err(), *want);
     }
     Ok(())
 }

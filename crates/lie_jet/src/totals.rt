@@ -14,9 +14,9 @@ ghost use Rattle.lie_jet.specs.Jets.{IsSmall};
 ghost use Rattle.lie_jet.specs.Listed.{sum_listed, bulk_listed, HasVariablesBelow};
 
 use crate::slopes::slope_of;
-use crate::space::Space;
+use crate::space::{Space, space_is_small};
 use lie_poly::Flat;
-use lie_ring::{Mono, NoMemory, PastKind, PolyFail, Polynomial, Ring, Whole};
+use lie_ring::{Mono, PastKind, PolyFail, Polynomial, Ring, Whole};
 use std::alloc::Global;
 
 /// A polynomial whose variables are numbers of coordinates.
@@ -33,11 +33,8 @@ pub fn total(alloc: Global, space: Space, i: u8, p: &JetPoly) -> Result<JetPoly,
     ensures fits { OnOk result (IsWithinLimits (total_derivative space i (absolute p.now))) }
     ensures past { IfErr result (λ fail. IsCause fail (total_derivative space i (absolute p.now))) }
 {
-    let _ = &space.p;
-    let terms = match p.terms(alloc) {
-        Ok(terms) => terms,
-        Err(NoMemory) => return Err(PolyFail::NoMemory),
-    };
+    space_is_small(space);
+    let terms = p.terms(alloc)?;
     let mut made = Vec::new(alloc);
     for term in &terms {
         push_total(&mut made, alloc, space, i, term)?;
@@ -57,8 +54,10 @@ fn push_total(
     requires within { i < space.p }
     requires low { HasVariablesBelow (coordinates_up_to space 11) term.now.0 }
     requires not_zero { ¬ (term.now.1 ≡ pos 0) }
-    ensures sum { OnOk result (sum_listed made.new.items ≡ sum_listed made.old.items +ᴾ total_derivative space i (term_of term.now.0 term.now.1)) }
-    ensures bulk { OnOk result (bulk_listed made.new.items ≡ bulk_listed made.old.items +ᴾ total_derivative space i (term_of term.now.0 (pos (unsigned_abs term.now.1)))) }
+    ensures sum { OnOk result (sum_listed made.new.items ≡ sum_listed made.old.items +ᴾ total_derivative space i
+        (term_of term.now.0 term.now.1)) }
+    ensures bulk { OnOk result (bulk_listed made.new.items ≡ bulk_listed made.old.items +ᴾ total_derivative space i
+        (term_of term.now.0 (pos (unsigned_abs term.now.1)))) }
     ensures past { IfErr result (λ fail. IsCause fail (total_derivative space i (term_of term.now.0 (pos (unsigned_abs term.now.1))))) }
 {
     for (var, exponent) in term.0.pairs() {
@@ -81,19 +80,19 @@ fn push_power(
     requires low { var < coordinates_up_to space 11 }
     requires positive { 0 < exponent }
     requires not_zero { ¬ (term.now.1 ≡ pos 0) }
-    ensures sum { OnOk result (sum_listed made.new.items ≡ sum_listed made.old.items +ᴾ total_derivative space i (variable var) *ᴾ term_of (lower var term.now.0) (term.now.1 *ℤ pos exponent)) }
-    ensures bulk { OnOk result (bulk_listed made.new.items ≡ bulk_listed made.old.items +ᴾ total_derivative space i (variable var) *ᴾ term_of (lower var term.now.0) (pos (unsigned_abs term.now.1) *ℤ pos exponent)) }
-    ensures past { IfErr result (λ fail. IsCause fail (total_derivative space i (variable var) *ᴾ term_of (lower var term.now.0) (pos (unsigned_abs term.now.1) *ℤ pos exponent))) }
+    ensures sum { OnOk result (sum_listed made.new.items ≡ sum_listed made.old.items +ᴾ total_derivative space i
+        (variable var) *ᴾ term_of (lower var term.now.0) (term.now.1 *ℤ pos exponent)) }
+    ensures bulk { OnOk result (bulk_listed made.new.items ≡ bulk_listed made.old.items +ᴾ total_derivative space i
+        (variable var) *ᴾ term_of (lower var term.now.0) (pos (unsigned_abs term.now.1) *ℤ pos exponent)) }
+    ensures past { IfErr result (λ fail. IsCause fail (total_derivative space i (variable var) *ᴾ term_of (lower var term.now.0)
+        (pos (unsigned_abs term.now.1) *ℤ pos exponent))) }
 {
     let slope = match slope_of(alloc, space, i, var) {
         Ok(Some(slope)) => slope,
         Ok(None) => return Ok(()),
         Err(fail) => return Err(fail),
     };
-    let rest = match term.0.lowered(alloc, var) {
-        Ok(rest) => rest,
-        Err(NoMemory) => return Err(PolyFail::NoMemory),
-    };
+    let rest = term.0.lowered(alloc, var)?;
     push_product(made, alloc, &rest, &slope, term.1, exponent)
 }
 
@@ -115,14 +114,9 @@ fn push_product(
         Some(coefficient) => coefficient,
         None => return Err(PolyFail::Past(PastKind::Coefficient)),
     };
-    let mono = match left.times(alloc, right) {
-        Ok(mono) => mono,
-        Err(fail) => return Err(fail),
-    };
-    match made.push((mono, coefficient)) {
-        Ok(()) => Ok(()),
-        Err(_) => Err(PolyFail::NoMemory),
-    }
+    let mono = left.times(alloc, right)?;
+    made.push((mono, coefficient))?;
+    Ok(())
 }
 
 /// The number, a number of times; None exactly where that is too wide.

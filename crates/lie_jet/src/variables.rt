@@ -5,12 +5,11 @@ ghost use Rattle.lie_math.specs.Monomial.{single as variable_alone};
 ghost use Rattle.lie_math.specs.Polynomial.{term};
 ghost use Rattle.lie_geometry.specs.Prolongation.{jet_variable};
 ghost use Rattle.lie_poly.specs.Failures.{IsStarved};
-ghost use Rattle.lie_jet.specs.Jets.{IsSmall};
 
 use crate::jet::Jet;
 use crate::numbering::jet_number;
 use crate::slopes::{raise_jet, single};
-use crate::space::Space;
+use crate::space::{Space, space_is_small};
 use crate::totals::JetPoly;
 use lie_ring::{PolyFail, Polynomial, Ring, Whole};
 use std::alloc::Global;
@@ -21,21 +20,18 @@ pub fn signed_variable(alloc: Global, number: u32, sign: Whole) -> Result<JetPol
     ensures variable { IfOk result (λ p. p ≡ term (variable_alone number) sign) }
     ensures memory { IfErr result IsStarved }
 {
-    let mono = match single(alloc, number) {
-        Ok(mono) => mono,
-        Err(fail) => return Err(fail),
-    };
+    let mono = single(alloc, number)?;
     JetPoly::of_terms(alloc, &[(mono, sign)])
 }
 
 /// The dependent variable `b`, derived by the independent variable `i`.
 pub fn dependent_slope(alloc: Global, space: Space, i: u8, b: u8) -> Result<JetPoly, PolyFail>
-    requires small { IsSmall space }
     requires within { i < space.p }
     requires dependent { b < space.q }
     ensures slope { IfOk result (λ p. p ≡ jet_variable space b (raise i (replicate space.p 0))) }
     ensures memory { IfErr result IsStarved }
 {
+    space_is_small(space);
     let jet = Jet {
         dep: b,
         counts: [0; 4],

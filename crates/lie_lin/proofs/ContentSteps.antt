@@ -6,8 +6,9 @@ use Rattle.std.proofs.lemmas.Nat.Gcd.{same_from_IsGcd, dvd_refl, le_of_dvd}
 use Rattle.std.proofs.Math.Nat.{eq-zero_of_zero-dvd}
 use Rattle.lie_math.specs.Monomial.{Monomial}
 use Rattle.lie_jet.specs.declared.derivative.Der.{Der}
-use Rattle.lie_systems.specs.Normalised.{common_divisor, common_monomial, common_factor}
-use Rattle.lie_systems.proofs.Divisors.{common_divisor_is}
+use Rattle.lie_math.specs.CommonDivisors.{common_divisor}
+use Rattle.lie_systems.specs.Normalised.{common_monomial, common_factor}
+use Rattle.lie_math.proofs.CommonDivisors.{common_divisor_is}
 use Rattle.lie_lin.specs.Forms.{triples_of}
 
 pub common_step : (list : List (Der × Monomial × ℤ)) (i : ℕ) (t : Der × Monomial × ℤ) → suc i < length list → t ≡ get_or list i t → common_monomial (triples_of (drop i list)) ≡ common_factor t.1 (common_monomial (triples_of (drop (suc i) list)))

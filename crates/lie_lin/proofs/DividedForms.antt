@@ -4,7 +4,7 @@ use Rattle.std.specs.Int.{◌∣◌}
 use Rattle.std.specs.List.{AllByRecursion as Every}
 use Rattle.std.proofs.Common.{refl, sym, ap, ap₂, subst, ◌∙◌, arith, is_lt, true≢false}
 use Rattle.std.proofs.lemmas.Nat.Gcd.{dvd_refl}
-use Rattle.lie_ring.proofs.Fronts.{every-front, every-back}
+use Rattle.lie_math.proofs.EveryElement.{every-front, every-back}
 use Rattle.lie_math.specs.SortedSum.{below_all}
 use Rattle.lie_math.specs.Canonical.{both, first, second}
 use Rattle.lie_math.specs.FiniteSum as finite

@@ -14,7 +14,7 @@ use Rattle.lie_systems.proofs.Leads.{first_is_lead}
 use Rattle.lie_jet.specs.declared.derivative.Der.{Der}
 use Rattle.lie_lin.specs.Forms.{coefficients_of, AreCoefficients, triples_of}
 use Rattle.lie_jet.specs.Derivatives.{derivative_of}
-use Rattle.lie_jet.proofs.FormParts.{triples_in-append}
+use Rattle.lie_form.proofs.FormParts.{triples_in-append}
 
 pub triples_of-append : (xs ys : List (Der × Monomial × ℤ)) → triples_of (xs ++ ys) ≡ triples_of xs ++ triples_of ys
 triples_of-append [] ys = refl

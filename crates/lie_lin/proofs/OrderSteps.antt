@@ -11,7 +11,7 @@ use Rattle.lie_jet.specs.Derivatives.{derivative_of}
 use Rattle.lie_lin.specs.Forms.{triples_of, coefficients_of}
 use Rattle.lie_ring.proofs.PairOrder.{used_up}
 use Rattle.lie_lin.proofs.Forms.{triples_more}
-use Rattle.lie_jet.proofs.FormCauses.{length-with}
+use Rattle.lie_form.proofs.FormCauses.{length-with}
 
 -- ---- the triples of one more derivative
 pub count_more : (es : List (Der × WholePolynomial)) (i n k : ℕ) (x : Der × WholePolynomial) → i < length es → x ≡ get_or es i x → n ≡ length (triples_in (coefficients_of (take i es))) → k ≡ length x.1.list → n + k ≡ length (triples_in (coefficients_of (take (i + 1) es)))

@@ -8,18 +8,19 @@ use Rattle.lie_math.specs.FiniteSum as finite
 use Rattle.lie_math.specs.Polynomial.{WholePolynomial, polynomial_of}
 use Rattle.lie_math.specs.Counts.{Derivative, derivative_cmp}
 use Rattle.lie_math.specs.LinearForm.{forms, LinearForm}
-use Rattle.lie_math.specs.Limits.{absolutes, IsWithinLimits as IsPolynomialWithinLimits}
+use Rattle.lie_math.specs.Limits.{absolutes}
 use Rattle.lie_systems.specs.Triples.{Triple, triples_in, triples_with, sum_of_triples}
-use Rattle.lie_systems.specs.Bulk.{absolute_triples, bulk, HasManyTriples, IsWithinLimits}
-use Rattle.lie_ring.proofs.Fronts.{every-append, all_taken}
+use Rattle.lie_systems.specs.Bulk.{absolute_triples, bulk, HasManyTriples, IsFormWithinLimits}
+use Rattle.lie_math.proofs.EveryElement.{every-append}
+use Rattle.lie_ring.proofs.Fronts.{all_taken}
 use Rattle.lie_jet.specs.declared.derivative.Der.{Der}
 use Rattle.lie_lin.specs.Forms.{derivatives_of, terms_at, coefficient_at, gathered, unless_zero, kept, AreDerivatives}
 use Rattle.lie_jet.specs.Derivatives.{derivative_of}
 use Rattle.lie_lin.proofs.Placing.{derivatives_of-append}
 use Rattle.lie_lin.proofs.Gathering.{gathered-append, kept-push, terms_at-absolute, canonical_kept, sum_is_kept}
-use Rattle.lie_lin.proofs.FormLimits.{within_of_parts, many_of_parts}
-use Rattle.lie_jet.proofs.FormParts.{triples_in-append}
-use Rattle.lie_jet.proofs.FormCauses.{length-with}
+use Rattle.lie_lin.proofs.FormLimits.{IsPartWithin, within_of_parts, many_of_parts}
+use Rattle.lie_form.proofs.FormParts.{triples_in-append}
+use Rattle.lie_form.proofs.FormCauses.{length-with}
 
 one_more : (ders : List Der) (i : ℕ) (d : Der) → i < length ders → derivatives_of (take (i + 1) ders) ≡ derivatives_of (take i ders) ++ derivative_of (get_or ders i d) ∷ []
 one_more ders i d lt = ap (λ n. derivatives_of (take n ders)) (add-one i) ∙ ap derivatives_of (take-suc ders i d lt) ∙ derivatives_of-append (take i ders) (get_or ders i d ∷ [])
@@ -45,15 +46,15 @@ count_step n k ders ts i d lt h e =
     us = absolute_triples ts
 
 abbrev pub AreWithin : List Derivative → List Triple → Type 0
-AreWithin ds ts = Every (λ d. IsPolynomialWithinLimits (polynomial_of (absolutes (terms_at d ts)))) ds
+AreWithin ds ts = Every (IsPartWithin ts) ds
 
-pub within_step : (ders : List Der) (ts : List Triple) (i : ℕ) (d : Der) → i < length ders → AreWithin (derivatives_of (take i ders)) ts → IsPolynomialWithinLimits (polynomial_of (absolutes (terms_at (derivative_of (get_or ders i d)) ts))) → AreWithin (derivatives_of (take (i + 1) ders)) ts
-within_step ders ts i d lt h k = subst (λ ds. AreWithin ds ts) (sym (one_more ders i d lt)) (every-append (λ d. IsPolynomialWithinLimits (polynomial_of (absolutes (terms_at d ts)))) (derivatives_of (take i ders)) (derivative_of (get_or ders i d) ∷ []) h (k, tt))
+pub within_step : (ders : List Der) (ts : List Triple) (i : ℕ) (d : Der) → i < length ders → AreWithin (derivatives_of (take i ders)) ts → IsPartWithin ts (derivative_of (get_or ders i d)) → AreWithin (derivatives_of (take (i + 1) ders)) ts
+within_step ders ts i d lt h k = subst (λ ds. AreWithin ds ts) (sym (one_more ders i d lt)) (every-append (IsPartWithin ts) (derivatives_of (take i ders)) (derivative_of (get_or ders i d) ∷ []) h (k, tt))
 
 pub many_at : (ders : List Der) (ts : List Triple) → AreDerivatives (derivatives_of ders) ts → (i n : ℕ) → length ders ≤ i → n ≡ length (triples_in (gathered (derivatives_of (take i ders)) (absolute_triples ts))) → 1000000 < n → HasManyTriples (bulk ts)
 many_at ders ts all i n le e h = many_of_parts ders ts all (subst (λ k. 1000000 < k) (e ∙ ap (λ ds. length (triples_in (gathered (derivatives_of ds) (absolute_triples ts)))) (all_taken ders i le)) h)
 
-pub within_at : (ders : List Der) (ts : List Triple) → AreDerivatives (derivatives_of ders) ts → (i n : ℕ) → length ders ≤ i → n ≡ length (triples_in (gathered (derivatives_of (take i ders)) (absolute_triples ts))) → n ≤ 1000000 → AreWithin (derivatives_of (take i ders)) ts → IsWithinLimits (bulk ts)
+pub within_at : (ders : List Der) (ts : List Triple) → AreDerivatives (derivatives_of ders) ts → (i n : ℕ) → length ders ≤ i → n ≡ length (triples_in (gathered (derivatives_of (take i ders)) (absolute_triples ts))) → n ≤ 1000000 → AreWithin (derivatives_of (take i ders)) ts → IsFormWithinLimits (bulk ts)
 within_at ders ts all i n le e h w =
     within_of_parts ders ts all (subst (λ ds. AreWithin (derivatives_of ds) ts) (all_taken ders i le) w)
     (subst (λ k. k ≤ 1000000) (e ∙ ap (λ ds. length (triples_in (gathered (derivatives_of ds) (absolute_triples ts)))) (all_taken ders i le)) h)

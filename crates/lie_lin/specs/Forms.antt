@@ -9,12 +9,8 @@ use Rattle.lie_math.specs.SortedSum.{is_canonical}
 use Rattle.lie_math.specs.Monomial.{Monomial}
 use Rattle.lie_math.specs.Polynomial.{WholePolynomial, terms, polynomial_of}
 use Rattle.lie_math.specs.Counts.{Derivative, derivative_cmp}
-use Rattle.lie_math.specs.LinearForm.{forms, LinearForm}
-use Rattle.lie_systems.specs.Bulk.{HasWideNumber, HasHighExponent, HasManyTriples}
+use Rattle.lie_math.specs.LinearForm.{forms}
 use Rattle.lie_systems.specs.Triples.{Triple}
-use Rattle.lie_ring.specs.declared.failures.PastKind.TheVariants.{Coefficient, Exponent, Terms, Order, Unknowns, Width}
-use Rattle.lie_ring.specs.declared.failures.PolyFail.{PolyFail}
-use Rattle.lie_ring.specs.declared.failures.PolyFail.TheVariants.{Past, NoMemory}
 use Rattle.lie_jet.specs.declared.derivative.Der.{Der}
 use Rattle.lie_jet.specs.Derivatives.{derivative_of}
 
@@ -71,13 +67,3 @@ pub record AreDerivatives (ds : List Derivative) (ts : List Triple) : Type 0 whe
 abbrev pub placed : Derivative → List Derivative → List Derivative
 placed d [] = d ∷ []
 placed d (e ∷ ds) = by_order (derivative_cmp d e) (d ∷ e ∷ ds) (e ∷ ds) (e ∷ placed d ds)
-
--- a sum of triples is answered by want of memory, or by a limit that its bulk is past; no order is ever past the limit on orders
-abbrev pub IsSumCause : PolyFail → LinearForm → Type 0
-IsSumCause (Past Coefficient) bulk = HasWideNumber bulk
-IsSumCause (Past Exponent) bulk = HasHighExponent bulk
-IsSumCause (Past Terms) bulk = HasManyTriples bulk
-IsSumCause (Past Order) bulk = ⊥
-IsSumCause (Past Unknowns) bulk = ⊥
-IsSumCause (Past Width) bulk = ⊥
-IsSumCause NoMemory bulk = Unit {0}

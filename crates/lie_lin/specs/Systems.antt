@@ -18,7 +18,12 @@ abbrev pub unknown_of : kept.Unknown → Unknown
 unknown_of f = record { number = f.number; variables = filter (has_bit f.vars) (range_with_len 0 8) }
 
 abbrev pub system_of : List kept.Unknown → List LinearForm → List LinearForm → ℕ → LinearSystem
-system_of unknowns equations general next = record { unknowns = map unknown_of unknowns; equations = equations; general = general; next = next }
+system_of unknowns equations general next = record {
+  unknowns = map unknown_of unknowns;
+  equations = equations;
+  general = general;
+  next = next;
+}
 
 -- ---- a system over a space can be stored
 pub record SpaceSystem : Type 0 where

@@ -1,11 +1,13 @@
 // What divides all triples of a form.
 ghost use Rattle.std.specs.Prelude.{◌≡◌, IfOk, ◌*ℤ◌, pos, unsigned_abs};
-ghost use Rattle.lie_systems.specs.Normalised.{common_divisor, content, common_monomial, first_sign};
+ghost use Rattle.lie_math.specs.CommonDivisors.{common_divisor};
+ghost use Rattle.lie_systems.specs.Normalised.{content, common_monomial, first_sign};
 ghost use Rattle.lie_lin.specs.Forms.{triples_of};
 
 use crate::factors::common_factor;
+use lie_bytes::NoMemory;
 use lie_jet::Der;
-use lie_ring::{Mono, NoMemory, Ring, Whole, gcd};
+use lie_ring::{Mono, Ring, Whole, gcd};
 use std::alloc::Global;
 
 /// The greatest common divisor of two numbers.
@@ -19,7 +21,7 @@ fn common_divisor(number: Whole, other: Whole) -> Whole
 }
 
 /// The greatest common divisor of the numbers.
-fn content(list: &[(Der, Mono, Whole)]) -> Whole
+pub fn content_of(list: &[(Der, Mono, Whole)]) -> Whole
     ensures { result ≡ pos (content (triples_of list.now)) }
 {
     let mut divisor = Whole::zero();
@@ -35,7 +37,7 @@ fn content(list: &[(Der, Mono, Whole)]) -> Whole
 pub fn signed_content(list: &[(Der, Mono, Whole)]) -> Whole
     ensures { result ≡ first_sign (triples_of list.now) *ℤ pos (content (triples_of list.now)) }
 {
-    let divisor = content(list);
+    let divisor = content_of(list);
     if list.len() > 0 && list[0].2.get() < 0 {
         divisor.neg()
     } else {

@@ -1,49 +1,25 @@
 // The derivatives that occur in a list of triples, in printed order.
 ghost use Rattle.std.specs.Prelude.{◌≡◌, ◌≤◌, length, IfOk, OnOk, MatchOption};
 ghost use Rattle.std.specs.List.{insert};
-ghost use Rattle.lie_math.specs.Counts.{derivative_cmp, order};
 ghost use Rattle.lie_lin.specs.Forms.{derivatives_of, triples_of, placed, AreDerivatives};
 ghost use Rattle.lie_jet.specs.Derivatives.{derivative_of};
 
-use lie_jet::Der;
-use lie_ring::{Mono, NoMemory, Whole};
+use lie_bytes::NoMemory;
+use lie_jet::{Der, compare_derivatives};
+use lie_ring::{Mono, Whole};
 use std::alloc::Global;
 use std::cmp::Ordering;
-
-/// The printed order of derivatives: the greater order first, then the greater unknown, then the lexicographically greater counts.
-pub fn compare(left: &Der, right: &Der) -> Ordering
-    ensures { result ≡ derivative_cmp (derivative_of left.now) (derivative_of right.now) }
-{
-    let left = *left;
-    let right = *right;
-    order_of(&right.counts).cmp(&order_of(&left.counts)).then(
-        right
-            .unknown
-            .cmp(&left.unknown)
-            .then(right.counts.cmp(&left.counts)),
-    )
-}
-
-/// The sum of the counts.
-fn order_of(counts: &[u8]) -> u128
-    ensures { result ≡ order counts.now }
-{
-    let mut total: u128 = 0;
-    for count in counts {
-        total += u128::from(*count);
-    }
-    total
-}
 
 /// The place before which a derivative has to be put into a list in printed order; None where it is there.
 fn place_of(ders: &[Der], der: &Der) -> Option<usize>
     ensures { MatchOption result
         (placed (derivative_of der.now) (derivatives_of ders.now) ≡ derivatives_of ders.now)
-        (λ i. (i ≤ length ders.now) × (derivatives_of (insert ders.now i der.now) ≡ placed (derivative_of der.now) (derivatives_of ders.now))) }
+        (λ i. (i ≤ length ders.now) × (derivatives_of (insert ders.now i der.now) ≡ placed (derivative_of der.now)
+        (derivatives_of ders.now))) }
 {
     let mut i = 0;
     while i < ders.len() {
-        match compare(der, &ders[i]) {
+        match compare_derivatives(der, &ders[i]) {
             Ordering::Less => return Some(i),
             Ordering::Equal => return None,
             Ordering::Greater => i += 1,
@@ -58,10 +34,7 @@ fn put(ders: &mut Vec<Der>, der: &Der) -> Result<(), NoMemory>
 {
     match place_of(ders.as_slice(), der) {
         None => Ok(()),
-        Some(i) => match ders.insert(i, *der) {
-            Ok(()) => Ok(()),
-            Err(_) => Err(NoMemory),
-        },
+        Some(i) => Ok(ders.insert(i, *der)?),
     }
 }
 

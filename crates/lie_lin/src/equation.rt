@@ -8,9 +8,10 @@ ghost use Rattle.lie_math.specs.FiniteSum as finite;
 ghost use Rattle.lie_lin.specs.Forms.{coefficients_of, triples_of, AreCoefficients};
 ghost use Rattle.lie_jet.specs.Derivatives.{derivative_of};
 
+use lie_bytes::NoMemory;
 use lie_jet::Der;
 use lie_poly::Flat;
-use lie_ring::{Mono, NoMemory, Polynomial, Whole};
+use lie_ring::{Mono, Polynomial, Whole};
 use std::alloc::Global;
 use std::marker::Model;
 
@@ -38,7 +39,7 @@ impl Model for LinEq {
 
 impl LinEq {
     /// The form with these coefficients, which are moved: it takes no memory.
-    pub(crate) fn of_terms(terms: Vec<(Der, Flat<Whole>)>) -> LinEq
+    pub fn of_terms(terms: Vec<(Der, Flat<Whole>)>) -> LinEq
         requires { AreCoefficients terms.items }
         ensures { result ≡ finite.of forms (coefficients_of terms.items) }
     {
@@ -46,7 +47,7 @@ impl LinEq {
     }
 
     /// The derivatives with their coefficients.
-    pub(crate) fn terms(&self) -> &[(Der, Flat<Whole>)]
+    pub fn terms(&self) -> &[(Der, Flat<Whole>)]
         ensures list { coefficients_of result.now ≡ self.now.list }
         ensures coefficients { AreCoefficients result.now }
     {
@@ -86,19 +87,17 @@ fn copy_triples(
 }
 
 /// Puts the triples of one derivative behind others.
-fn push_triples(
+pub fn push_triples(
     out: &mut Vec<(Der, Mono, Whole)>,
     alloc: Global,
     term: &(Der, Flat<Whole>),
 ) -> Result<(), NoMemory>
-    ensures { OnOk result (triples_of out.new.items ≡ triples_of out.old.items ++ triples_with (derivative_of term.now.0) (term.now.1).list) }
+    ensures { OnOk result (triples_of out.new.items ≡ triples_of out.old.items ++ triples_with (derivative_of term.now.0)
+        (term.now.1).list) }
 {
     let list = term.1.terms(alloc)?;
     for (mono, number) in list {
-        match out.push((term.0, mono, number)) {
-            Ok(()) => {}
-            Err(_) => return Err(NoMemory),
-        }
+        out.push((term.0, mono, number))?;
     }
     Ok(())
 }

@@ -5,7 +5,8 @@ ghost use Rattle.lie_math.specs.FiniteSum.{IsCanonical};
 ghost use Rattle.lie_systems.specs.Normalised.{common_factor, without_factor};
 ghost use Rattle.lie_lin.specs.Powers.{power_unless_zero};
 
-use lie_ring::{Mono, NoMemory};
+use lie_bytes::NoMemory;
+use lie_ring::Mono;
 use std::alloc::Global;
 
 /// Puts a power behind others, unless its exponent is 0.

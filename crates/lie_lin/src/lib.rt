@@ -10,8 +10,9 @@ mod order;
 mod sum;
 mod system;
 
-pub use equation::{LinEq, lead, triples};
-pub use normalised::primitive;
+pub use content::{common_monomial, content_of};
+pub use equation::{LinEq, lead, push_triples, triples};
+pub use normalised::{divided_coefficient, primitive};
 pub use order::{compare_equations, triple_count};
 pub use sum::of_triples;
 pub use system::{LinSystem, Unknown};

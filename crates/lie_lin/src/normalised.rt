@@ -15,9 +15,10 @@ ghost use Rattle.lie_lin.specs.Powers.{IsDividedTerm};
 use crate::content::{common_monomial, signed_content};
 use crate::equation::{LinEq, triples};
 use crate::factors::without_factor;
+use lie_bytes::NoMemory;
 use lie_jet::Der;
 use lie_poly::Flat;
-use lie_ring::{Mono, NoMemory, PolyFail, Polynomial, Ring, Whole};
+use lie_ring::{Mono, PolyFail, Polynomial, Ring, Whole};
 use std::alloc::Global;
 
 /// Puts a term behind others, divided by a number and a monomial that divide it.
@@ -38,7 +39,7 @@ fn push_divided(
 }
 
 /// A coefficient divided by a number and a monomial that divide each of its terms. It fails for want of memory alone.
-fn divided_coefficient(
+pub fn divided_coefficient(
     alloc: Global,
     number: Whole,
     mono: &Mono,
@@ -50,15 +51,10 @@ fn divided_coefficient(
     ensures memory { IfErr result IsStarved }
 {
     let _ = coefficient.len();
-    let terms = match coefficient.terms(alloc) {
-        Ok(terms) => terms,
-        Err(_) => return Err(PolyFail::NoMemory),
-    };
+    let terms = coefficient.terms(alloc)?;
     let mut out = Vec::new(alloc);
     for term in terms.as_slice() {
-        if push_divided(&mut out, alloc, number, mono, term).is_err() {
-            return Err(PolyFail::NoMemory);
-        }
+        push_divided(&mut out, alloc, number, mono, term)?;
     }
     Flat::of_terms(alloc, out.as_slice())
 }

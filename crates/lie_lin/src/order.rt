@@ -6,10 +6,10 @@ ghost use Rattle.lie_systems.specs.Triples.{triples as triples_in_form};
 ghost use Rattle.lie_jet.specs.Derivatives.{derivative_of};
 ghost use Rattle.lie_lin.specs.Forms.{triples_of};
 
-use crate::derivatives::compare;
 use crate::equation::{LinEq, triples};
-use lie_jet::Der;
-use lie_ring::{Mono, NoMemory, Whole};
+use lie_bytes::NoMemory;
+use lie_jet::{Der, compare_derivatives};
+use lie_ring::{Mono, Whole};
 use std::alloc::Global;
 use std::cmp::Ordering;
 
@@ -29,7 +29,7 @@ pub fn triple_count(eq: &LinEq) -> u128
 fn compare_triples(left: &(Der, Mono, Whole), right: &(Der, Mono, Whole)) -> Ordering
     ensures { result ≡ triple_cmp (derivative_of left.now.0, left.now.1, left.now.2) (derivative_of right.now.0, right.now.1, right.now.2) }
 {
-    let derivatives = compare(&right.0, &left.0);
+    let derivatives = compare_derivatives(&right.0, &left.0);
     let monomials = right.1.compare(&left.1);
     let numbers = left.2.get().cmp(&right.2.get());
     derivatives.then(monomials.then(numbers))

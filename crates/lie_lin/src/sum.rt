@@ -1,34 +1,37 @@
 // Sums of triples.
-ghost use Rattle.std.specs.Prelude.{◌≡◌, ◌≤◌, ◌<◌, ◌++◌, ◌∷◌, [], length, map, pos, unsigned_abs, IfOk, OnOk, IfErr};
+ghost use Rattle.std.specs.Prelude.{◌≡◌, ◌≤◌, ◌<◌, ◌++◌, ◌∷◌, [], length, map, IsTrue, IfOk, OnOk, IfErr};
 ghost use Rattle.lie_math.specs.Polynomial.{polynomial_of};
 ghost use Rattle.lie_math.specs.Limits.{absolutes, IsWithinLimits as IsPolynomialWithinLimits};
 ghost use Rattle.lie_systems.specs.Triples.{sum_of_triples};
-ghost use Rattle.lie_systems.specs.Bulk.{bulk, IsWithinLimits};
+ghost use Rattle.lie_systems.specs.Bulk.{bulk, IsFormWithinLimits};
 ghost use Rattle.lie_ring.specs.Causes.{IsCause};
-ghost use Rattle.lie_lin.specs.Forms.{IsSumCause, derivatives_of, coefficients_of, triples_of, terms_at, AreDerivatives, gathered, kept, unless_zero};
+ghost use Rattle.lie_form.specs.FormLimits.{IsFormCause};
+ghost use Rattle.lie_math.specs.Counts.{order};
+ghost use Rattle.lie_lin.specs.Forms.{derivatives_of, coefficients_of, triples_of, terms_at, AreDerivatives, gathered, kept, unless_zero};
 ghost use Rattle.lie_jet.specs.Derivatives.{derivative_of};
 
-use crate::derivatives::{compare, derivatives};
+use crate::derivatives::derivatives;
 use crate::equation::LinEq;
-use lie_jet::Der;
+use lie_bytes::NoMemory;
+use lie_jet::{Der, absolute_value, compare_derivatives, order_of_derivative};
 use lie_poly::Flat;
-use lie_ring::{Mono, NoMemory, PastKind, PolyFail, Polynomial, Ring, Whole};
+use lie_ring::{Mono, PastKind, PolyFail, Polynomial, Ring, Whole};
 use std::alloc::Global;
 
 /// The greatest number of triples of a form.
 const MAX_TRIPLES: u128 = 1_000_000;
 
+/// The greatest order of a derivative of an unknown.
+const MAX_ORDER: u32 = 64;
+
 /// The sum of triples of a derivative, a monomial and a number, in any order. Past exactly where the sum of the triples with the
-/// absolute values of their numbers has a number past 2^127 - 1, an exponent past 65,535 or more than 1,000,000 triples.
+/// absolute values of their numbers has a number past 2^127 - 1, an exponent past 65,535, an order past 64 or more than 1,000,000 triples.
 pub fn of_triples(alloc: Global, list: &[(Der, Mono, Whole)]) -> Result<LinEq, PolyFail>
     ensures sum { IfOk result (λ eq. eq ≡ sum_of_triples (triples_of list.now)) }
-    ensures fits { OnOk result (IsWithinLimits (bulk (triples_of list.now))) }
-    ensures past { IfErr result (λ fail. IsSumCause fail (bulk (triples_of list.now))) }
+    ensures fits { OnOk result (IsFormWithinLimits (bulk (triples_of list.now))) }
+    ensures past { IfErr result (λ fail. IsFormCause fail (bulk (triples_of list.now))) }
 {
-    let ders = match derivatives(alloc, list) {
-        Ok(ders) => ders,
-        Err(_) => return Err(PolyFail::NoMemory),
-    };
+    let ders = derivatives(alloc, list)?;
     match coefficients(alloc, list, ders.as_slice()) {
         Ok(terms) => Ok(LinEq::of_terms(terms)),
         Err(fail) => Err(fail),
@@ -43,8 +46,8 @@ fn coefficients(
 ) -> Result<Vec<(Der, Flat<Whole>)>, PolyFail>
     requires { AreDerivatives (derivatives_of ders.now) (triples_of list.now) }
     ensures sum { IfOk result (λ terms. coefficients_of terms.items ≡ kept (gathered (derivatives_of ders.now) (triples_of list.now))) }
-    ensures fits { OnOk result (IsWithinLimits (bulk (triples_of list.now))) }
-    ensures past { IfErr result (λ fail. IsSumCause fail (bulk (triples_of list.now))) }
+    ensures fits { OnOk result (IsFormWithinLimits (bulk (triples_of list.now))) }
+    ensures past { IfErr result (λ fail. IsFormCause fail (bulk (triples_of list.now))) }
 {
     let mut terms = Vec::new(alloc);
     let mut count: u128 = 0;
@@ -53,6 +56,9 @@ fn coefficients(
             Ok(found) => found,
             Err(fail) => return Err(fail),
         };
+        if is_high(der, size) {
+            return Err(PolyFail::Past(PastKind::Order));
+        }
         count += size as u128;
         match push_unless_zero(&mut terms, der, coefficient) {
             Ok(()) => {}
@@ -65,6 +71,17 @@ fn coefficients(
     Ok(terms)
 }
 
+/// Whether the derivative occurs, with so many terms, and its order is past the limit.
+fn is_high(der: &Der, term_count: usize) -> bool
+    ensures high { IsTrue result → (¬ (term_count ≡ 0)) × (64 < order (derivative_of der.now).counts) }
+    ensures low { (¬ (IsTrue result)) → (¬ (term_count ≡ 0)) → order (derivative_of der.now).counts ≤ 64 }
+{
+    if term_count == 0 {
+        return false;
+    }
+    order_of_derivative(der) > MAX_ORDER
+}
+
 /// The coefficient of one derivative in a sum of triples, and the number of terms of its bulk.
 fn coefficient_of(
     alloc: Global,
@@ -72,9 +89,12 @@ fn coefficient_of(
     der: &Der,
 ) -> Result<(Flat<Whole>, usize), PolyFail>
     ensures value { IfOk result (λ found. found.0 ≡ polynomial_of (terms_at (derivative_of der.now) (triples_of list.now))) }
-    ensures size { IfOk result (λ found. found.1 ≡ length (polynomial_of (absolutes (terms_at (derivative_of der.now) (triples_of list.now)))).list) }
-    ensures fits { OnOk result (IsPolynomialWithinLimits (polynomial_of (absolutes (terms_at (derivative_of der.now) (triples_of list.now))))) }
-    ensures past { IfErr result (λ fail. IsCause fail (polynomial_of (absolutes (terms_at (derivative_of der.now) (triples_of list.now))))) }
+    ensures size { IfOk result (λ found. found.1 ≡ length (polynomial_of
+        (absolutes (terms_at (derivative_of der.now) (triples_of list.now)))).list) }
+    ensures fits { OnOk result (IsPolynomialWithinLimits (polynomial_of
+        (absolutes (terms_at (derivative_of der.now) (triples_of list.now))))) }
+    ensures past { IfErr result (λ fail. IsCause fail (polynomial_of (absolutes
+        (terms_at (derivative_of der.now) (triples_of list.now))))) }
 {
     let terms = match terms_of(alloc, list, der) {
         Ok(terms) => terms,
@@ -125,9 +145,10 @@ fn push_of(
     triple: &(Der, Mono, Whole),
     der: &Der,
 ) -> Result<(), NoMemory>
-    ensures { OnOk result (terms.new.items ≡ terms.old.items ++ terms_at (derivative_of der.now) ((derivative_of triple.now.0, triple.now.1, triple.now.2) ∷ [])) }
+    ensures { OnOk result (terms.new.items ≡ terms.old.items ++ terms_at (derivative_of der.now)
+        ((derivative_of triple.now.0, triple.now.1, triple.now.2) ∷ [])) }
 {
-    if compare(der, &triple.0).is_eq() {
+    if compare_derivatives(der, &triple.0).is_eq() {
         return push_term(terms, alloc, &triple.1, triple.2);
     }
     Ok(())
@@ -139,20 +160,9 @@ fn sizes_of(alloc: Global, terms: &[(Mono, Whole)]) -> Result<Vec<(Mono, Whole)>
 {
     let mut sizes = Vec::new(alloc);
     for (mono, number) in terms {
-        push_term(&mut sizes, alloc, mono, absolute(*number))?;
+        push_term(&mut sizes, alloc, mono, absolute_value(*number))?;
     }
     Ok(sizes)
-}
-
-/// The absolute value.
-fn absolute(number: Whole) -> Whole
-    ensures { result ≡ pos (unsigned_abs number) }
-{
-    if number.get() < 0 {
-        number.neg()
-    } else {
-        number
-    }
 }
 
 /// Puts a term behind others.
@@ -165,10 +175,8 @@ fn push_term(
     ensures { OnOk result (terms.new.items ≡ terms.old.items ++ (mono.now, number) ∷ []) }
 {
     let mono = mono.copy(alloc)?;
-    match terms.push((mono, number)) {
-        Ok(()) => Ok(()),
-        Err(_) => Err(NoMemory),
-    }
+    terms.push((mono, number))?;
+    Ok(())
 }
 
 /// Puts a derivative with its coefficient behind others, unless the coefficient is 0.
@@ -177,14 +185,12 @@ fn push_unless_zero(
     der: &Der,
     coefficient: Flat<Whole>,
 ) -> Result<(), NoMemory>
-    ensures { OnOk result (coefficients_of terms.new.items ≡ coefficients_of terms.old.items ++ unless_zero (derivative_of der.now) coefficient []) }
+    ensures { OnOk result (coefficients_of terms.new.items ≡ coefficients_of terms.old.items ++ unless_zero
+        (derivative_of der.now) coefficient []) }
 {
     if coefficient.len() == 0 {
         return Ok(());
     }
-    match terms.push((*der, coefficient)) {
-        Ok(()) => {}
-        Err(_) => return Err(NoMemory),
-    }
+    terms.push((*der, coefficient))?;
     Ok(())
 }

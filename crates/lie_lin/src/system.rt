@@ -64,6 +64,15 @@ impl LinSystem {
         }
     }
 
+    /// The unknowns, the equations and the general forms, which are moved: it takes no memory.
+    pub fn into_parts(self) -> (Vec<Unknown>, Vec<LinEq>, Vec<LinEq>)
+        ensures unknowns { map unknown_of result.0.items ≡ self.system.unknowns }
+        ensures equations { result.1.items ≡ self.system.equations }
+        ensures general { result.2.items ≡ self.system.general }
+    {
+        (self.unknowns, self.equations, self.general)
+    }
+
     /// The numbers of variables.
     pub fn space(&self) -> Space
         ensures space { result ≡ self.now.space }

@@ -7,8 +7,9 @@ use crate::{
     LinEq, LinSystem, Unknown, compare_equations, lead, of_triples, primitive, triple_count,
     triples,
 };
+use lie_bytes::NoMemory;
 use lie_jet::{Der, Space};
-use lie_ring::{Mono, NoMemory, PastKind, PolyFail, Ring, Whole};
+use lie_ring::{Mono, PastKind, PolyFail, Ring, Whole};
 use std::alloc::Global;
 use std::cmp::Ordering;
 use std::test::Fail;

@@ -1,11 +1,14 @@
 -- Canonical lists: their parts, what may be put, replaced and left out, and their sums.
-use Rattle.std.specs.Prelude.{◌≡◌, true, not, ◌&&◌, T, List, [], ◌∷◌, ◌++◌}
-use Rattle.std.proofs.Common.{sym, ap₂, subst, ◌∙◌, Less, is_lt}
+use Rattle.std.specs.Prelude.{◌≡◌, Bool, true, false, cond, not, ◌&&◌, T, List, [], ◌∷◌, ◌++◌}
+use Rattle.std.proofs.Common.{refl, sym, ap, ap₂, subst, ◌∙◌, Less, is_lt}
+use Rattle.std.specs.List.{AllByRecursion as Every}
+use Rattle.std.specs.Ordering.{eq_by_cmp}
+use Rattle.lie_math.proofs.FiniteSum.{key}
 use Rattle.lie_math.proofs.Rising.{is_less}
 use Rattle.lie_math.specs.FiniteSum.{Shape, IsCanonical, of, plus}
 use Rattle.lie_math.specs.FiniteSumLaws.{value-of, value-plus}
-use Rattle.lie_math.specs.SortedSum.{below_all, delta, is_canonical}
-use Rattle.lie_math.specs.Canonical.{below_less, both, first, second, sum_of_entries-append}
+use Rattle.lie_math.specs.SortedSum.{below_all, delta, is_canonical, value_at}
+use Rattle.lie_math.specs.Canonical.{below_less, both, first, second, sum_of_entries-append, value_at-head}
 use Rattle.lie_math.specs.FiniteSumLaws as finite_laws
 
 module _ {K A : Type 0} (S : Shape K A) where
@@ -48,6 +51,20 @@ module _ {K A : Type 0} (S : Shape K A) where
   pub canonical_front : (es fs : List (K × A)) → IsCanonical S (es ++ fs) → IsCanonical S es
   canonical_front [] fs h = tt
   canonical_front (e ∷ es) fs h = canonical_cons e es (canonical_value e (es ++ fs) h) (below_front e.0 es fs (canonical_below e (es ++ fs) h)) (canonical_front es fs (canonical_tail e (es ++ fs) h))
+
+  -- a value that is not none is that of an entry, and has what all entries have
+  pub value_has : (Q : K × A → Type 0) (k : K) (es : List (K × A)) → IsCanonical S es → Every Q es → ¬ (value_at S.order S.values k es ≡ S.values.adder.nil) → Q (k, value_at S.order S.values k es)
+  value_has Q k [] c h n = absurd (n refl)
+  value_has Q k (e ∷ es) c h n = go (eq_by_cmp S.order k e.0) refl (value_has Q k es (canonical_tail e es c) h.1)
+    where
+      go : (t : Bool) → eq_by_cmp S.order k e.0 ≡ t → (¬ (value_at S.order S.values k es ≡ S.values.adder.nil) → Q (k, value_at S.order S.values k es)) → Q (k, value_at S.order S.values k (e ∷ es))
+      go true f rest =
+          let s : k ≡ e.0 = key S k e.0 f in
+          let v : value_at S.order S.values k (e ∷ es) ≡ e.1 = ap (λ j. value_at S.order S.values j (e ∷ es)) s ∙ value_at-head S.order S.values S.total S.same e es (canonical_below e es c) in
+          subst Q (sym (λ i. (s i, v i))) h.0
+      go false f rest =
+          let v : value_at S.order S.values k (e ∷ es) ≡ value_at S.order S.values k es = ap (λ t. S.values.adder.plus (cond t e.1 S.values.adder.nil) (value_at S.order S.values k es)) f ∙ S.values.adder.idl (value_at S.order S.values k es) in
+          subst (λ a. Q (k, a)) (sym v) (rest (λ z. n (v ∙ z)))
 
   -- what stands after a list may be changed for what stands after a greater key
   pub canonical_join : (out : List (K × A)) (x y : K × A) (xs ys : List (K × A)) → IsCanonical S (out ++ x ∷ xs) → IsCanonical S (y ∷ ys) → S.order x.0 y.0 ≡ Less → IsCanonical S ((out ++ x ∷ []) ++ y ∷ ys)

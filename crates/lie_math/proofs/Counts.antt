@@ -6,7 +6,7 @@ use Rattle.std.proofs.Math.Dec.{eqb-suc-zero}
 use Rattle.std.specs.Cmp.{nat_cmp_is}
 use Rattle.std.specs.Ordering.{nat_cmp, ordering_then}
 use Rattle.std.specs.Cmp.Lexicographic.{slice_cmp}
-use Rattle.lie_math.specs.Counts.{order, raise, before_counts, trimmed, partials_from, partials}
+use Rattle.lie_math.specs.Counts.{derivative_cmp, order, raise, before_counts, trimmed, partials_from, partials}
 use Rattle.lie_math.specs.PartialDerivative.{partial}
 use Rattle.lie_math.specs.Polynomial.{WholePolynomial}
 use Rattle.lie_math.proofs.PartialDerivative.{partial_commutes}
@@ -98,7 +98,7 @@ before_raise (suc i) c [] = go (eqb c 0) refl
 before_raise zero c (d ∷ J) = refl
 before_raise (suc i) c (d ∷ J) = refl
 
-before_suc : (c : ℕ) (J : List ℕ) → before_counts (suc c) J ≡ suc c ∷ J
+pub before_suc : (c : ℕ) (J : List ℕ) → before_counts (suc c) J ≡ suc c ∷ J
 before_suc c [] = ap (λ t. cond t [] (suc c ∷ [])) (eqb-suc-zero c)
 before_suc c (d ∷ J) = refl
 
@@ -120,13 +120,13 @@ trimmed_raise zero (c ∷ J) = before_suc c (trimmed J) ∙ sym (raise_before c 
 trimmed_raise (suc i) (c ∷ J) = ap (before_counts c) (trimmed_raise i J) ∙ before_raise i c (trimmed J)
 
 -- ---- the order of derivatives
-zero_less : (d : ℕ) → nat_cmp 0 (suc d) ≡ Less
+pub zero_less : (d : ℕ) → nat_cmp 0 (suc d) ≡ Less
 zero_less d = sym (nat_cmp_is 0 (suc d) Less (omega arith))
 
-zero_greater : (c : ℕ) → nat_cmp (suc c) 0 ≡ Greater
+pub zero_greater : (c : ℕ) → nat_cmp (suc c) 0 ≡ Greater
 zero_greater c = sym (nat_cmp_is (suc c) 0 Greater (omega arith))
 
-cmp_before : (c d : ℕ) (J K : List ℕ) → slice_cmp nat_cmp (before_counts c J) (before_counts d K) ≡ ordering_then (nat_cmp c d) (slice_cmp nat_cmp J K)
+pub cmp_before : (c d : ℕ) (J K : List ℕ) → slice_cmp nat_cmp (before_counts c J) (before_counts d K) ≡ ordering_then (nat_cmp c d) (slice_cmp nat_cmp J K)
 cmp_before zero zero [] [] = refl
 cmp_before zero zero [] (k ∷ K) = refl
 cmp_before zero zero (j ∷ J) [] = refl
@@ -143,3 +143,10 @@ trimmed_cmp [] [] e = refl
 trimmed_cmp [] (k ∷ K) e = absurd (omega arith)
 trimmed_cmp (j ∷ J) [] e = absurd (omega arith)
 trimmed_cmp (j ∷ J) (k ∷ K) e = cmp_before j k (trimmed J) (trimmed K) ∙ ap (ordering_then (nat_cmp j k)) (trimmed_cmp J K (omega arith))
+
+-- derivatives compare by the padded lists of counts as by the trimmed ones
+pub derivative_cmp-trimmed : (f g : ℕ) (J K : List ℕ) → length J ≡ length K
+    → derivative_cmp (record { unknown = f; counts = trimmed J }) (record { unknown = g; counts = trimmed K }) ≡ derivative_cmp (record { unknown = f; counts = J }) (record { unknown = g; counts = K })
+derivative_cmp-trimmed f g J K e =
+    ap₂ (λ a b. ordering_then (nat_cmp b a) (ordering_then (nat_cmp g f) (slice_cmp nat_cmp (trimmed K) (trimmed J)))) (order_trimmed J) (order_trimmed K)
+    ∙ ap (λ r. ordering_then (nat_cmp (order K) (order J)) (ordering_then (nat_cmp g f) r)) (trimmed_cmp K J (sym e))

@@ -26,6 +26,16 @@ pub mod Dependence
 pub mod Powers
 pub mod ZeroDivisors
 pub mod RationalPolynomial
+pub mod CommonDivisors
+pub mod ExactQuotients
+pub mod Tests
+pub mod EveryElement
+pub mod ContainedElements
+pub mod SortedLists
+pub mod Decisions
+pub mod FirstNumbers
+pub mod FormEntries
+pub mod PowerCoefficients
 pub mod Cancellation
 pub mod Degree
 pub mod WorkedValues

@@ -35,4 +35,5 @@ pub same_linear_system : (x y : LinearSystem) → parts x ≡ parts y → x ≡ 
 same_linear_system x y e = λ i. record { unknowns = (((e i).0).0).0; equations = (((e i).0).0).1; general = ((e i).0).1; next = (e i).1 }
 
 abbrev pub linear_system_code : Coded LinearSystem
-linear_system_code = coded_via (coded× (coded× (coded× (coded_list unknown_code) (coded_list form_code)) (coded_list form_code)) coded_ℕ) parts same_linear_system
+linear_system_code = coded_via (coded× (coded× (coded× (coded_list unknown_code) (coded_list form_code)) (coded_list form_code)) coded_ℕ)
+    parts same_linear_system

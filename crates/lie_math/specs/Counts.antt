@@ -1,4 +1,5 @@
--- Derivatives: how often a function is derived by each variable, the derivatives of unknown functions, and the order in which they are printed.
+-- Derivatives: how often a function is derived by each variable, the derivatives of unknown functions, and the order in which they are
+-- printed.
 use Rattle.std.specs.Prelude.{ℕ, zero, suc, ◌+◌, cond, eqb, List, [], ◌∷◌}
 use Rattle.std.proofs.Common.{Ordering}
 use Rattle.std.specs.Fn.{iterate}
@@ -43,7 +44,8 @@ pub record Derivative : Type 0 where
 
 -- printed order: the greater order first, then the greater unknown, then the lexicographically greater counts
 abbrev pub derivative_cmp : Derivative → Derivative → Ordering
-derivative_cmp = then_cmp (on (λ d. order d.counts) (flip_args nat_cmp)) (then_cmp (on (λ d. d.unknown) (flip_args nat_cmp)) (on (λ d. d.counts) (flip_args (slice_cmp nat_cmp))))
+derivative_cmp = then_cmp (on (λ d. order d.counts) (flip_args nat_cmp))
+    (then_cmp (on (λ d. d.unknown) (flip_args nat_cmp)) (on (λ d. d.counts) (flip_args (slice_cmp nat_cmp))))
 
 -- one more derivative of it by the i-th variable
 abbrev pub raised : ℕ → Derivative → Derivative

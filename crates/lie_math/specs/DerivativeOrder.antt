@@ -12,7 +12,8 @@ use Rattle.lie_math.specs.Counts.{order, Derivative, derivative_cmp}
 pub derivative_cmp_total : IsTotalOrder derivative_cmp
 derivative_cmp_total =
     then_total (on_total (λ (d : Derivative). order d.counts) (back_total nat_cmp_total))
-    (then_total (on_total (λ (d : Derivative). d.unknown) (back_total nat_cmp_total)) (on_total (λ (d : Derivative). d.counts) (back_total nat_list_cmp_total)))
+    (then_total (on_total (λ (d : Derivative). d.unknown) (back_total nat_cmp_total))
+    (on_total (λ (d : Derivative). d.counts) (back_total nat_list_cmp_total)))
 
 pub derivative_same : IsAntisymmetric derivative_cmp
 derivative_same x y e =

@@ -8,7 +8,17 @@ use Rattle.std.specs.Coded.{Coded, coded×, coded_list}
 use base.Stored.{coded_via}
 use Rattle.lie_math.specs.FiniteSum.{FiniteSum, Shape, is_none, list_is_empty, none, of, plus, sum_over, term, value}
 use Rattle.lie_math.specs.Monoid.{Adder, Values}
-use Rattle.lie_math.specs.Canonical.{Additive, canonical_unique, delta_additive, idr, normal-canonical, normal_unique, sum_of_entries-append, sum_of_entries-map, sum_of_entries-normal}
+use Rattle.lie_math.specs.Canonical.{
+  Additive,
+  canonical_unique,
+  delta_additive,
+  idr,
+  normal-canonical,
+  normal_unique,
+  sum_of_entries-append,
+  sum_of_entries-map,
+  sum_of_entries-normal,
+}
 use Rattle.lie_math.specs.SortedSum.{delta, is_canonical, sum_of_entries, value_at}
 
 no_entries : {X : Type 0} (xs : List X) → list_is_empty xs ≡ true → xs ≡ []
@@ -18,7 +28,10 @@ no_entries (x ∷ xs) e = absurd (true≢false (sym e))
 module _ {K A : Type 0} (S : Shape K A) where
   pub same_list : (p q : FiniteSum S) → p.list ≡ q.list → p ≡ q
   same_list p q e =
-      let pairs : ◌≡◌ {A = (es : List (K × A)) × T (is_canonical S.order S.values es)} (p.list, p.canonical) (q.list, q.canonical) = Σ_prop_path (λ es. T_prop _) e in
+      let pairs : ◌≡◌ {A = (es : List (K × A)) × T (is_canonical S.order S.values es)} (p.list, p.canonical) (
+        q.list,
+        q.canonical,
+      ) = Σ_prop_path (λ es. T_prop _) e in
       λ i. record { list = (pairs i).0; canonical = (pairs i).1 }
 
   abbrev pub code : Coded K → Coded A → Coded (FiniteSum S)
@@ -69,7 +82,8 @@ module _ {K A : Type 0} (S : Shape K A) where
   value-term j a k = sum-term S.values.adder (delta S.order S.values k) (delta_additive S.order S.values S.total S.same k) j a
 
   pub plus_idl : (p : FiniteSum S) → plus S (none S) p ≡ p
-  plus_idl p = ext (plus S (none S) p) p (λ k. value-plus (none S) p k ∙ ap (λ x. S.values.adder.plus x (value S p k)) (value-none k) ∙ S.values.adder.idl _)
+  plus_idl p = ext (plus S (none S) p) p (λ k. value-plus (none S) p k ∙ ap (λ x. S.values.adder.plus x (value S p k)) (value-none k)
+      ∙ S.values.adder.idl _)
 
   pub plus_assoc : (p q r : FiniteSum S) → plus S (plus S p q) r ≡ plus S p (plus S q r)
   plus_assoc p q r = ext (plus S (plus S p q) r) (plus S p (plus S q r)) (λ k.
@@ -95,7 +109,8 @@ module _ {K A : Type 0} (S : Shape K A) where
 
   pub term_additive : Additive S.values.adder adder (term S)
   term_additive = record {
-    on_nil = λ k. ext (term S k S.values.adder.nil) (none S) (λ q. value-term k S.values.adder.nil q ∙ (delta_additive S.order S.values S.total S.same q).on_nil k ∙ sym (value-none q));
+    on_nil = λ k. ext (term S k S.values.adder.nil) (none S) (λ q. value-term k S.values.adder.nil q
+        ∙ (delta_additive S.order S.values S.total S.same q).on_nil k ∙ sym (value-none q));
     on_plus = λ k a b. ext (term S k (S.values.adder.plus a b)) (plus S (term S k a) (term S k b)) (λ q.
         value-term k (S.values.adder.plus a b) q ∙ (delta_additive S.order S.values S.total S.same q).on_plus k a b
         ∙ ap₂ S.values.adder.plus (sym (value-term k a q)) (sym (value-term k b q)) ∙ sym (value-plus (term S k a) (term S k b) q));

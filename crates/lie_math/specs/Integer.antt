@@ -11,7 +11,13 @@ scaled n a b c d e f h = let k : n * (a + b + c) ≡ n * (d + e + f) = ap (λ t.
 
 pub *ℤ-distl : (a b c : ℤ) → a *ℤ (b +ℤ c) ≡ a *ℤ b +ℤ a *ℤ c
 *ℤ-distl a b c =
-    same_in _ _ (omega (arith, sum_is_lem, product_is, scaled (up a) _ _ _ _ _ _ (sum_is_lem b c), scaled (down a) _ _ _ _ _ _ (sum_is_lem b c)))
+    same_in _ _ (omega (
+      arith,
+      sum_is_lem,
+      product_is,
+      scaled (up a) _ _ _ _ _ _ (sum_is_lem b c),
+      scaled (down a) _ _ _ _ _ _ (sum_is_lem b c),
+    ))
 
 pub *ℤ_assoc : (a b c : ℤ) → (a *ℤ b) *ℤ c ≡ a *ℤ (b *ℤ c)
 *ℤ_assoc a b c =
@@ -57,7 +63,24 @@ abbrev pub coefficients : Values ℤ
 coefficients = record { adder = integers; is_nil = is_zero_int; is_nil_nil = refl; nil_of_is = int_nil }
 
 abbrev pub integer_ring : Ring ℤ
-integer_ring = record { adder = integers; one = pos 1; times = ◌*ℤ◌; neg = neg_ℤ; times_assoc = *ℤ_assoc; times_comm = *ℤ_comm; times_idl = *ℤ-idl; dist = *ℤ-distl; neg_l = +ℤ_invl }
+integer_ring = record {
+  adder = integers;
+  one = pos 1;
+  times = ◌*ℤ◌;
+  neg = neg_ℤ;
+  times_assoc = *ℤ_assoc;
+  times_comm = *ℤ_comm;
+  times_idl = *ℤ-idl;
+  dist = *ℤ-distl;
+  neg_l = +ℤ_invl;
+}
 
 abbrev pub integer_algebra : Algebra ℤ
-integer_algebra = record { ring = integer_ring; whole = λ z. z; whole_zero = refl; whole_one = refl; whole_plus = λ a b. refl; whole_times = λ a b. refl }
+integer_algebra = record {
+  ring = integer_ring;
+  whole = λ z. z;
+  whole_zero = refl;
+  whole_one = refl;
+  whole_plus = λ a b. refl;
+  whole_times = λ a b. refl;
+}

@@ -1,5 +1,5 @@
 -- The laws that the crate's functions promise, where they are long.
-use Rattle.std.specs.Prelude.{◌≡◌, ℕ, ◌*◌, ◌<◌, ◌≤◌, ◌⊎◌, Bool, cond, eqb, ℤ, pos, ◌↔◌}
+use Rattle.std.specs.Prelude.{◌≡◌, ℕ, ◌*◌, ◌<◌, ◌≤◌, ◌⊎◌, Bool, cond, eqb, List, length, ℤ, pos, ◌↔◌}
 use Rattle.std.specs.Cmp.{IsTotalOrder}
 use Rattle.std.specs.FinMap.{IsAntisymmetric}
 use Rattle.std.proofs.Common.{Less}
@@ -8,7 +8,7 @@ use Rattle.lie_math.specs.Polynomial.{WholePolynomial, coefficient, constant, va
 use Rattle.lie_math.specs.PolynomialRing.{polynomial_algebra}
 use Rattle.lie_math.specs.PartialDerivative.{partial}
 use Rattle.lie_math.specs.Derivation.{IsDerivation, sum_of, numbers_below, bound}
-use Rattle.lie_math.specs.Counts.{derivative_cmp}
+use Rattle.lie_math.specs.Counts.{derivative_cmp, trimmed}
 use Rattle.lie_math.specs.Evaluation.{value_in}
 use Rattle.lie_math.specs.Variables.{IsIn}
 use Rattle.lie_math.specs.Powers.{power_coefficient}
@@ -24,6 +24,12 @@ PrintOrderIsTotal = IsTotalOrder monomial_cmp × IsAntisymmetric monomial_cmp
 abbrev pub DerivativeOrderIsTotal : Type 0
 DerivativeOrderIsTotal = IsTotalOrder derivative_cmp × IsAntisymmetric derivative_cmp
 
+-- derivatives whose lists of counts are equally long stand in the order in which they stand without the zeros at the end
+abbrev pub TrimmedCountsKeepOrder : Type 0
+TrimmedCountsKeepOrder = (f g : ℕ) (J K : List ℕ) → length J ≡ length K
+    → derivative_cmp (record { unknown = f; counts = trimmed J }) (record { unknown = g; counts = trimmed K })
+    ≡ derivative_cmp (record { unknown = f; counts = J }) (record { unknown = g; counts = K })
+
 -- m has the greater exponent at the first variable where the two differ
 pub record HasFirstGreater (m n : Monomial) : Type 0 where
   pub variable : ℕ
@@ -32,7 +38,8 @@ pub record HasFirstGreater (m n : Monomial) : Type 0 where
 
 -- m comes first exactly if its degree is greater, or the degrees are the same and it has the first greater exponent
 abbrev pub PrintOrderIsByExponents : Type 0
-PrintOrderIsByExponents = (m n : Monomial) → monomial_cmp m n ≡ Less ↔ ((degree n < degree m) ⊎ ((degree m ≡ degree n) × HasFirstGreater m n))
+PrintOrderIsByExponents = (m n : Monomial)
+    → monomial_cmp m n ≡ Less ↔ ((degree n < degree m) ⊎ ((degree m ≡ degree n) × HasFirstGreater m n))
 
 -- the ring laws
 pub record PolynomialsAreRing : Type 0 where
@@ -53,14 +60,17 @@ pub record IsHomomorphism (h : WholePolynomial → WholePolynomial) : Type 0 whe
 
 -- putting polynomials in for the variables is the one homomorphism that takes each variable to what is put in for it
 abbrev pub SubstitutionIsHomomorphism : Type 0
-SubstitutionIsHomomorphism = (s : ℕ → WholePolynomial) → IsHomomorphism (value_in polynomial_algebra s) × ((v : ℕ) → value_in polynomial_algebra s (variable v) ≡ s v)
+SubstitutionIsHomomorphism = (s : ℕ → WholePolynomial)
+    → IsHomomorphism (value_in polynomial_algebra s) × ((v : ℕ) → value_in polynomial_algebra s (variable v) ≡ s v)
 
 abbrev pub HomomorphismIsSubstitution : Type 0
-HomomorphismIsSubstitution = (h : WholePolynomial → WholePolynomial) → IsHomomorphism h → (p : WholePolynomial) → h p ≡ value_in polynomial_algebra (λ v. h (variable v)) p
+HomomorphismIsSubstitution = (h : WholePolynomial → WholePolynomial) → IsHomomorphism h → (p : WholePolynomial)
+    → h p ≡ value_in polynomial_algebra (λ v. h (variable v)) p
 
 -- a derivation is the sum of its values at the variables times the partial derivatives
 abbrev pub DerivationIsChainRule : Type 0
-DerivationIsChainRule = (D : WholePolynomial → WholePolynomial) → IsDerivation D → (p : WholePolynomial) → D p ≡ sum_of (numbers_below (bound p)) (λ w. D (variable w) *ᴾ partial w p)
+DerivationIsChainRule = (D : WholePolynomial → WholePolynomial) → IsDerivation D → (p : WholePolynomial)
+    → D p ≡ sum_of (numbers_below (bound p)) (λ w. D (variable w) *ᴾ partial w p)
 
 -- a polynomial in the variables of S is told by putting 0 in for the others
 abbrev pub InIsKept : Type 0
@@ -68,7 +78,8 @@ InIsKept = (S : ℕ → Bool) (p : WholePolynomial) → IsIn S p ↔ value_in po
 
 -- the coefficient of the i-th power of v has no v, and has the coefficients of p at the multiples of that power
 abbrev pub PowerCoefficientIsCoefficient : Type 0
-PowerCoefficientIsCoefficient = (v i : ℕ) (p : WholePolynomial) (m : Monomial) → coefficient (power_coefficient v i p) m ≡ cond (eqb (exponent m v) 0) (coefficient p (power_of v i · m)) (pos 0)
+PowerCoefficientIsCoefficient = (v i : ℕ) (p : WholePolynomial) (m : Monomial)
+    → coefficient (power_coefficient v i p) m ≡ cond (eqb (exponent m v) 0) (coefficient p (power_of v i · m)) (pos 0)
 
 -- equality of rational polynomials is an equivalence, where the numbers are at least 1
 pub record SameRationalIsEquivalence : Type 0 where
@@ -78,7 +89,8 @@ pub record SameRationalIsEquivalence : Type 0 where
 
 -- a number may be multiplied to both parts
 abbrev pub MultipleIsSameRational : Type 0
-MultipleIsSameRational = (n : ℕ) (r : RationalPolynomial) → IsSameRational (record { over = n * r.over; whole = constant (pos n) *ᴾ r.whole }) r
+MultipleIsSameRational = (n : ℕ) (r : RationalPolynomial)
+    → IsSameRational (record { over = n * r.over; whole = constant (pos n) *ᴾ r.whole }) r
 
 -- what a system gives does not depend on how the field is written
 abbrev pub GivesSameField : Type 0
@@ -86,4 +98,5 @@ GivesSameField = (S : LinearSystem) (V W : VectorField) → 0 < V.denominator �
 
 -- f m is at most the greatest, n, at each term m of p, and is n at some term, unless p is 0
 abbrev pub IsGreatest : (Monomial → ℕ) → WholePolynomial → ℕ → Type 0
-IsGreatest f p n = ((m : Monomial) → ¬ (coefficient p m ≡ pos 0) → f m ≤ n) × (¬ (p ≡ 0ᴾ) → (m : Monomial) × (¬ (coefficient p m ≡ pos 0)) × (f m ≡ n))
+IsGreatest f p n = ((m : Monomial) → ¬ (coefficient p m ≡ pos 0) → f m ≤ n)
+    × (¬ (p ≡ 0ᴾ) → (m : Monomial) × (¬ (coefficient p m ≡ pos 0)) × (f m ≡ n))

@@ -25,3 +25,4 @@ pub mod Codes
 pub mod Laws
 pub mod WorkedValues
 pub mod Limits
+pub mod CommonDivisors

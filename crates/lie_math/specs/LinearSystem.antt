@@ -14,7 +14,8 @@ pub record Unknown : Type 0 where
 abbrev pub has : Unknown → ℕ → Bool
 has f v = list_any (eqb v) f.variables
 
--- the equations say that a form is 0; `general` has a form for each component of the fields; no unknown has the number `next` or one above it
+-- the equations say that a form is 0; `general` has a form for each component of the fields; no unknown has the number `next` or one
+-- above it
 pub record LinearSystem : Type 0 where
   pub unknowns : List Unknown
   pub equations : List LinearForm
@@ -32,4 +33,5 @@ pub record Gives (S : LinearSystem) (V : VectorField) : Type 0 where
   pub solves : IsSolution solution S
   pub multiple : ℕ
   pub positive : 0 < multiple
-  pub same : (s : ℕ) → constant (pos multiple) *ᴾ component V s ≡ constant (pos V.denominator) *ᴾ apply solution (get_or S.general s no_form)
+  pub same : (s : ℕ) → constant (pos multiple) *ᴾ component V s ≡ constant (pos V.denominator) *ᴾ apply solution
+      (get_or S.general s no_form)

@@ -36,10 +36,12 @@ times_left n b = record {
 }
 
 -- a sum of additive functions is additive
-pub over_additive : (F : Monomial → ℤ → Monomial → ℤ → WholePolynomial) (q : WholePolynomial) → ((n : Monomial) (b : ℤ) → AdditiveOnTerms (λ m a. F m a n b)) → AdditiveOnTerms (λ m a. over_terms (F m a) q)
+pub over_additive : (F : Monomial → ℤ → Monomial → ℤ → WholePolynomial) (q : WholePolynomial)
+    → ((n : Monomial) (b : ℤ) → AdditiveOnTerms (λ m a. F m a n b)) → AdditiveOnTerms (λ m a. over_terms (F m a) q)
 over_additive F q add = record {
   on_nil = λ m. ap (λ φ. over_terms φ q) (fun_ext (λ n. fun_ext (λ b. (add n b).on_nil m))) ∙ sum_of_entries-nil polynomials q.list;
-  on_plus = λ m a c. ap (λ φ. over_terms φ q) (fun_ext (λ n. fun_ext (λ b. (add n b).on_plus m a c))) ∙ sum_of_entries-plus polynomials (F m a) (F m c) q.list;
+  on_plus = λ m a c. ap (λ φ. over_terms φ q) (fun_ext (λ n. fun_ext (λ b. (add n b).on_plus m a c)))
+      ∙ sum_of_entries-plus polynomials (F m a) (F m c) q.list;
 }
 
 pub times_additive : (q : WholePolynomial) → AdditiveOnTerms (λ m a. over_terms (λ n b. term (m · n) (a *ℤ b)) q)
@@ -69,7 +71,8 @@ term-*ᴾ m a q = sum-term terms polynomials _ (times_additive q) m a
 pub *ᴾ_assoc : (p q r : WholePolynomial) → (p *ᴾ q) *ᴾ r ≡ p *ᴾ (q *ᴾ r)
 unfolding ◌*ᴾ◌
 *ᴾ_assoc p q r = left ∙ ap (λ F. over_terms (λ m a. over_terms (λ n b. over_terms (F m a n b) r) q) p)
-    (fun_ext (λ m. fun_ext (λ a. fun_ext (λ n. fun_ext (λ b. fun_ext (λ k. fun_ext (λ c. ap₂ term (·_assoc m n k) (*ℤ_assoc a b c)))))))) ∙ sym right
+    (fun_ext (λ m. fun_ext (λ a. fun_ext (λ n. fun_ext (λ b. fun_ext (λ k. fun_ext (λ c. ap₂ term (·_assoc m n k) (*ℤ_assoc a b c))))))))
+    ∙ sym right
   where
     h : WholePolynomial → WholePolynomial
     h s = over_terms (λ m a. over_terms (λ n b. term (m · n) (a *ℤ b)) r) s
@@ -77,23 +80,30 @@ unfolding ◌*ᴾ◌
     g : Monomial → ℤ → WholePolynomial → WholePolynomial
     g m a s = over_terms (λ n b. term (m · n) (a *ℤ b)) s
 
-    left : over_terms (λ m a. over_terms (λ n b. term (m · n) (a *ℤ b)) r) (over_terms (λ m a. over_terms (λ n b. term (m · n) (a *ℤ b)) q) p)
+    left : over_terms (λ m a. over_terms (λ n b. term (m · n) (a *ℤ b)) r)
+        (over_terms (λ m a. over_terms (λ n b. term (m · n) (a *ℤ b)) q) p)
         ≡ over_terms (λ m a. over_terms (λ n b. over_terms (λ k c. term ((m · n) · k) ((a *ℤ b) *ℤ c)) r) q) p
-    left = sum_of_entries-map polynomials polynomials h (sum-none terms polynomials _ (times_additive r)) (sum-plus terms polynomials _ (times_additive r)) _ p.list
+    left = sum_of_entries-map polynomials polynomials h (sum-none terms polynomials _ (times_additive r))
+        (sum-plus terms polynomials _ (times_additive r)) _ p.list
         ∙ ap (λ φ. over_terms φ p) (fun_ext (λ m. fun_ext (λ a.
-        sum_of_entries-map polynomials polynomials h (sum-none terms polynomials _ (times_additive r)) (sum-plus terms polynomials _ (times_additive r)) _ q.list
+        sum_of_entries-map polynomials polynomials h (sum-none terms polynomials _ (times_additive r))
+        (sum-plus terms polynomials _ (times_additive r)) _ q.list
         ∙ ap (λ φ. over_terms φ q) (fun_ext (λ n. fun_ext (λ b. sum-term terms polynomials _ (times_additive r) (m · n) (a *ℤ b)))))))
 
-    right : over_terms (λ m a. over_terms (λ n b. term (m · n) (a *ℤ b)) (over_terms (λ m a. over_terms (λ n b. term (m · n) (a *ℤ b)) r) q)) p
+    right : over_terms (λ m a. over_terms (λ n b. term (m · n) (a *ℤ b))
+        (over_terms (λ m a. over_terms (λ n b. term (m · n) (a *ℤ b)) r) q)) p
         ≡ over_terms (λ m a. over_terms (λ n b. over_terms (λ k c. term (m · (n · k)) (a *ℤ (b *ℤ c))) r) q) p
     right = ap (λ φ. over_terms φ p) (fun_ext (λ m. fun_ext (λ a.
-        sum_of_entries-map polynomials polynomials (g m a) (sum-none terms polynomials _ (times_right m a)) (sum-plus terms polynomials _ (times_right m a)) _ q.list
+        sum_of_entries-map polynomials polynomials (g m a) (sum-none terms polynomials _ (times_right m a))
+        (sum-plus terms polynomials _ (times_right m a)) _ q.list
         ∙ ap (λ φ. over_terms φ q) (fun_ext (λ n. fun_ext (λ b.
-        sum_of_entries-map polynomials polynomials (g m a) (sum-none terms polynomials _ (times_right m a)) (sum-plus terms polynomials _ (times_right m a)) _ r.list
+        sum_of_entries-map polynomials polynomials (g m a) (sum-none terms polynomials _ (times_right m a))
+        (sum-plus terms polynomials _ (times_right m a)) _ r.list
         ∙ ap (λ φ. over_terms φ r) (fun_ext (λ k. fun_ext (λ c. sum-term terms polynomials _ (times_right m a) (n · k) (b *ℤ c))))))))))
 
 pub one-*ᴾ : (p : WholePolynomial) → constant (pos 1) *ᴾ p ≡ p
-one-*ᴾ p = term-*ᴾ unit (pos 1) p ∙ ap (λ φ. over_terms φ p) (fun_ext (λ n. fun_ext (λ b. ap₂ term (·_idl n) (*ℤ-idl b)))) ∙ sum_of_terms terms p
+one-*ᴾ p = term-*ᴾ unit (pos 1) p ∙ ap (λ φ. over_terms φ p) (fun_ext (λ n. fun_ext (λ b. ap₂ term (·_idl n) (*ℤ-idl b))))
+    ∙ sum_of_terms terms p
 
 pub negᴾ_l : (p : WholePolynomial) → negᴾ p +ᴾ p ≡ 0ᴾ
 negᴾ_l p =
@@ -101,7 +111,17 @@ negᴾ_l p =
     ∙ ap (λ x. x *ᴾ p) (sym ((term_additive terms).on_plus unit (negsuc 0) (pos 1)) ∙ (term_additive terms).on_nil unit) ∙ 0ᴾ-*ᴾ p
 
 abbrev pub polynomial_ring : Ring WholePolynomial
-polynomial_ring = record { adder = polynomials; one = constant (pos 1); times = ◌*ᴾ◌; neg = negᴾ; times_assoc = *ᴾ_assoc; times_comm = *ᴾ_comm; times_idl = one-*ᴾ; dist = *ᴾ-dist; neg_l = negᴾ_l }
+polynomial_ring = record {
+  adder = polynomials;
+  one = constant (pos 1);
+  times = ◌*ᴾ◌;
+  neg = negᴾ;
+  times_assoc = *ᴾ_assoc;
+  times_comm = *ᴾ_comm;
+  times_idl = one-*ᴾ;
+  dist = *ᴾ-dist;
+  neg_l = negᴾ_l;
+}
 
 pub term_times_term : (m n : Monomial) (a b : ℤ) → term m a *ᴾ term n b ≡ term (m · n) (a *ℤ b)
 term_times_term m n a b = term-*ᴾ m a (term n b) ∙ sum-term terms polynomials _ (times_right m a) n b
@@ -113,7 +133,14 @@ pub constant-times : (a b : ℤ) → constant (a *ℤ b) ≡ constant a *ᴾ con
 constant-times a b = ap (λ m. term m (a *ℤ b)) (sym (·_idl unit)) ∙ sym (term_times_term unit unit a b)
 
 abbrev pub polynomial_algebra : Algebra WholePolynomial
-polynomial_algebra = record { ring = polynomial_ring; whole = constant; whole_zero = (term_additive terms).on_nil unit; whole_one = refl; whole_plus = constant-plus; whole_times = constant-times }
+polynomial_algebra = record {
+  ring = polynomial_ring;
+  whole = constant;
+  whole_zero = (term_additive terms).on_nil unit;
+  whole_one = refl;
+  whole_plus = constant-plus;
+  whole_times = constant-times;
+}
 
 pub polynomial_of-none : polynomial_of [] ≡ 0ᴾ
 unfolding finite.none

@@ -1,4 +1,5 @@
--- Lists of keys that strictly rise, each with a value that is not nil, and what such a list says: its value at a key, and sums over its entries.
+-- Lists of keys that strictly rise, each with a value that is not nil, and what such a list says: its value at a key, and sums over its
+-- entries.
 use Rattle.std.specs.Prelude.{Bool, true, cond, not, ◌&&◌, List, [], ◌∷◌}
 use Rattle.std.proofs.Common.{Ordering, is_lt}
 use Rattle.std.specs.List.{list_all}

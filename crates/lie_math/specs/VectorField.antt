@@ -13,4 +13,5 @@ component V s = get_or V.parts s 0ᴾ
 
 -- each component is the same: the part over the denominator
 abbrev pub IsSameField : VectorField → VectorField → Type 0
-IsSameField V W = (s : ℕ) → IsSameRational (record { over = V.denominator; whole = component V s }) (record { over = W.denominator; whole = component W s })
+IsSameField V W = (s : ℕ)
+    → IsSameRational (record { over = V.denominator; whole = component V s }) (record { over = W.denominator; whole = component W s })

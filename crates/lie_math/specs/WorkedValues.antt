@@ -15,21 +15,30 @@ written ts = polynomial_of (map (λ t. (monomial_of t.0, t.1)) ts)
 
 -- (x + u)^2 is x^2 + 2*x*u + u^2
 abbrev pub SquareOfSum : Type 0
-SquareOfSum = (variable 0 +ᴾ variable 1) *ᴾ (variable 0 +ᴾ variable 1) ≡ written (((0, 2) ∷ [], pos 1) ∷ ((0, 1) ∷ (1, 1) ∷ [], pos 2) ∷ ((1, 2) ∷ [], pos 1) ∷ [])
+SquareOfSum = (variable 0 +ᴾ variable 1) *ᴾ (variable 0 +ᴾ variable 1)
+    ≡ written (((0, 2) ∷ [], pos 1) ∷ ((0, 1) ∷ (1, 1) ∷ [], pos 2) ∷ ((1, 2) ∷ [], pos 1) ∷ [])
 
 -- 1 + x + u^2 + x*u + x^2 is printed with x^2, x*u, u^2, x, 1 in this order
 abbrev pub OrderOfTerms : Type 0
 OrderOfTerms =
-    map (λ t. (t.0).list) (written (([], pos 1) ∷ ((0, 1) ∷ [], pos 1) ∷ ((1, 2) ∷ [], pos 1) ∷ ((0, 1) ∷ (1, 1) ∷ [], pos 1) ∷ ((0, 2) ∷ [], pos 1) ∷ [])).list
+    map (λ t. (t.0).list)
+    (written (([], pos 1) ∷ ((0, 1) ∷ [], pos 1) ∷ ((1, 2) ∷ [], pos 1) ∷ ((0, 1) ∷ (1, 1) ∷ [], pos 1) ∷ (
+      (0, 2) ∷ [],
+      pos
+          1,
+    ) ∷ [])).list
     ≡ ((0, 2) ∷ []) ∷ ((0, 1) ∷ (1, 1) ∷ []) ∷ ((1, 2) ∷ []) ∷ ((0, 1) ∷ []) ∷ [] ∷ []
 
 -- the derivative of x*u + 3*x^2 by x is u + 6*x
 abbrev pub DerivativeOfSum : Type 0
-DerivativeOfSum = partial 0 (written (((0, 1) ∷ (1, 1) ∷ [], pos 1) ∷ ((0, 2) ∷ [], pos 3) ∷ [])) ≡ written (((1, 1) ∷ [], pos 1) ∷ ((0, 1) ∷ [], pos 6) ∷ [])
+DerivativeOfSum = partial 0 (written (((0, 1) ∷ (1, 1) ∷ [], pos 1) ∷ ((0, 2) ∷ [], pos 3) ∷ []))
+    ≡ written (((1, 1) ∷ [], pos 1) ∷ ((0, 1) ∷ [], pos 6) ∷ [])
 
 -- the coefficient of x in 3*x^2 + x*u + 2*x + 5 is u + 2
 abbrev pub CoefficientOfX : Type 0
-CoefficientOfX = power_coefficient 0 1 (written (((0, 2) ∷ [], pos 3) ∷ ((0, 1) ∷ (1, 1) ∷ [], pos 1) ∷ ((0, 1) ∷ [], pos 2) ∷ ([], pos 5) ∷ [])) ≡ written (((1, 1) ∷ [], pos 1) ∷ ([], pos 2) ∷ [])
+CoefficientOfX = power_coefficient 0 1
+    (written (((0, 2) ∷ [], pos 3) ∷ ((0, 1) ∷ (1, 1) ∷ [], pos 1) ∷ ((0, 1) ∷ [], pos 2) ∷ ([], pos 5) ∷ []))
+    ≡ written (((1, 1) ∷ [], pos 1) ∷ ([], pos 2) ∷ [])
 
 -- x/2 is 2*x/4
 abbrev pub HalfOfX : Type 0
@@ -46,7 +55,8 @@ constant_system = record {
 
 -- it gives 3/2*d_x and not x*d_x
 abbrev pub ConstantFieldsGiven : Type 0
-ConstantFieldsGiven = Gives constant_system (record { denominator = 2; parts = constant (pos 3) ∷ [] }) × (¬ (Gives constant_system (record { denominator = 1; parts = variable 0 ∷ [] })))
+ConstantFieldsGiven = Gives constant_system (record { denominator = 2; parts = constant (pos 3) ∷ [] })
+    × (¬ (Gives constant_system (record { denominator = 1; parts = variable 0 ∷ [] })))
 
 -- the degree of x*u^2 + 3*x is 1 in x and 2 in u
 abbrev pub DegreeInEach : Type 0

@@ -9,7 +9,8 @@ ghost use Rattle.lie_math.specs.Laws.{DerivationIsChainRule};
 
 /// The coefficients of a partial derivative: that at `n` is the coefficient at `v·n`, times the exponent of `v` in `v·n`.
 pub fn partial_coefficients()
-    ensures { (v : ℕ) (p : WholePolynomial) (n : Monomial) → coefficient (partial v p) n ≡ coefficient p (single v · n) *ℤ pos (suc (exponent n v)) }
+    ensures { (v : ℕ) (p : WholePolynomial) (n : Monomial)
+        → coefficient (partial v p) n ≡ coefficient p (single v · n) *ℤ pos (suc (exponent n v)) }
 {}
 
 /// The derivative of a product (Leibniz).

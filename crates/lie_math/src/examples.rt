@@ -1,6 +1,7 @@
 //! Worked values, each a law.
 
-ghost use Rattle.lie_math.specs.WorkedValues.{SquareOfSum, OrderOfTerms, DerivativeOfSum, CoefficientOfX, HalfOfX, ConstantFieldsGiven, DegreeInEach, ExponentsUpTo65535AreLow};
+ghost use Rattle.lie_math.specs.WorkedValues.{SquareOfSum, OrderOfTerms, DerivativeOfSum, CoefficientOfX, HalfOfX, ConstantFieldsGiven};
+ghost use Rattle.lie_math.specs.WorkedValues.{DegreeInEach, ExponentsUpTo65535AreLow};
 
 /// `(x + u)^2` is `x^2 + 2*x*u + u^2`.
 pub fn square_of_sum()

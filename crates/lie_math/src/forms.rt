@@ -1,15 +1,21 @@
-//! Linear forms in the derivatives of unknown functions: the order of derivatives, and what a form says of functions put in for the unknowns.
+//! Linear forms in the derivatives of unknown functions: the order of derivatives, and what a form says of functions put in for the
+//! unknowns.
 
 ghost use Rattle.std.specs.Prelude.{◌≡◌, ℕ, List};
 ghost use Rattle.lie_math.specs.Polynomial.{WholePolynomial, ◌+ᴾ◌, ◌*ᴾ◌};
 ghost use Rattle.lie_math.specs.PartialDerivative.{partial};
 ghost use Rattle.lie_math.specs.Counts.{raise, partials};
 ghost use Rattle.lie_math.specs.LinearForm.{LinearForm, ◌+ᶠ◌, times_form, unknown_form, derive, apply};
-ghost use Rattle.lie_math.specs.Laws.{DerivativeOrderIsTotal};
+ghost use Rattle.lie_math.specs.Laws.{DerivativeOrderIsTotal, TrimmedCountsKeepOrder};
 
 /// The order in which derivatives of unknowns are printed is total, and two derivatives tie only where they are equal.
 pub fn derivative_order_is_total()
     ensures { DerivativeOrderIsTotal }
+{}
+
+/// Derivatives with equally long lists of counts stand in the order in which they stand without the zeros at the end of these.
+pub fn trimmed_counts_keep_order()
+    ensures { TrimmedCountsKeepOrder }
 {}
 
 /// One more in the counts is one more derivative.

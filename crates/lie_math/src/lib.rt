@@ -2,6 +2,7 @@
 #![tactic(auto)]
 
 pub mod derivations;
+pub mod divisors;
 pub mod examples;
 pub mod forms;
 pub mod occurrences;

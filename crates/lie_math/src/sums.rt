@@ -40,7 +40,8 @@ pub fn terms_multiply()
 
 /// An additive map is told by what it makes of the terms.
 pub fn terms_tell_additive_map()
-    ensures { (h : WholePolynomial → WholePolynomial) → h 0ᴾ ≡ 0ᴾ → ((p q : WholePolynomial) → h (p +ᴾ q) ≡ h p +ᴾ h q) → (p : WholePolynomial) → h p ≡ over_terms (λ m a. h (term m a)) p }
+    ensures { (h : WholePolynomial → WholePolynomial) → h 0ᴾ ≡ 0ᴾ → ((p q : WholePolynomial) → h (p +ᴾ q) ≡ h p +ᴾ h q)
+        → (p : WholePolynomial) → h p ≡ over_terms (λ m a. h (term m a)) p }
 {}
 
 /// The degree of a polynomial is the greatest degree of its terms.

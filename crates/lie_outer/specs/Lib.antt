@@ -2,4 +2,5 @@
 pub mod Causes
 pub mod Files
 pub mod Sink
+pub mod Plans
 pub mod Memory

@@ -5,12 +5,14 @@
 mod files;
 mod host;
 mod memory;
+mod plan;
 mod sink;
 
 pub use files::{FileFail, Files};
 pub use host::{HostFiles, HostSink};
-pub use lie_ring::{Bytes, NoMemory, Text};
+pub use lie_bytes::{Bytes, NoMemory, Text};
 pub use memory::{MemoryFiles, MemorySink};
+pub use plan::Plan;
 pub use sink::{Sink, SinkFail};
 
 #[cfg(test)]

@@ -1,35 +1,12 @@
 // Fakes: files and a sink in memory, which tell what they hold and fail at the calls that they are told to fail at.
-ghost use Rattle.std.specs.Prelude.{◌≡◌, ◌≤◌, ◌+◌, ◌-◌, ◌^◌, ◌↔◌, ℕ, List, IsTrue, IsErrOf, IfOk, Some, length, min, Contains, option_copied};
+ghost use Rattle.std.specs.Prelude.{◌≡◌, ◌≤◌, ◌↔◌, IsErrOf, IfOk, Some, length, option_copied};
 ghost use Rattle.lie_outer.specs.Files.{file_at, Reads, CountsRead};
 ghost use Rattle.lie_outer.specs.Sink.{Puts, CountsPut};
-ghost use Rattle.lie_outer.specs.Memory.{FailsNext, CountsCall, IsNewPlan, files_of, bytes_of};
+ghost use Rattle.lie_outer.specs.Memory.{files_of, bytes_of};
+ghost use Rattle.lie_outer.specs.Plans.{FailsNext, CountsCall, IsNewPlan};
 
-use crate::{Bytes, FileFail, Files, Sink, SinkFail, Text};
+use crate::{Bytes, FileFail, Files, Plan, Sink, SinkFail, Text};
 use std::alloc::Global;
-
-/// The numbers of the calls that are to fail, from 1 on, and how many calls there were.
-#[derive(Drop)]
-struct Plan {
-    fails: Vec<u64>,
-    calls: u64,
-}
-
-impl Plan {
-    fn new(fails: Vec<u64>) -> Plan
-        ensures { IsNewPlan result fails.items }
-    {
-        Plan { fails, calls: 0 }
-    }
-
-    /// Counts a call, and says whether it is to fail.
-    fn next_fails(&mut self) -> bool
-        ensures fails { IsTrue result ↔ FailsNext self.old }
-        ensures counted { CountsCall self.old self.new }
-    {
-        self.calls = self.calls.saturating_add(1);
-        self.fails.contains(&self.calls)
-    }
-}
 
 /// Files in memory. They tell what they hold.
 #[derive(Drop)]
@@ -94,10 +71,7 @@ impl Files for MemoryFiles {
         if bytes.len() > max {
             return Err(FileFail::TooLong);
         }
-        match Bytes::of(alloc, bytes) {
-            Ok(copy) => Ok(copy),
-            Err(_) => Err(FileFail::NoMemory),
-        }
+        Bytes::of(alloc, bytes).map_err(|_| FileFail::NoMemory)
     }
 }
 
@@ -139,6 +113,8 @@ impl Sink for MemorySink {
     ghost fault_count = { λ sink. sink.faults };
 
     ghost starved_count = { λ sink. sink.starved };
+
+    ghost put_count = { λ sink. sink.plan.calls };
 
     fn faults(&self) -> u64 {
         self.faults

@@ -115,7 +115,7 @@ derived_one v m z n = by_test (eqb (exponent m v) 0) refl
 pub derived_bulk : (v : ℕ) (es : List (Monomial × ℤ)) → polynomial_of (absolutes (derived_list v es)) ≡ partial v (polynomial_of (absolutes es))
 derived_bulk v es = ap polynomial_of (absolutes-derived v es) ∙ polynomial_of-derived v (absolutes es)
 
-within_absolutes : (es : List (Monomial × ℤ)) → AreWithin es → AreWithin (absolutes es)
+pub within_absolutes : (es : List (Monomial × ℤ)) → AreWithin es → AreWithin (absolutes es)
 within_absolutes [] h = tt
 within_absolutes (e ∷ es) h = (h.0, h.1, within_absolutes es h.2)
 

@@ -9,3 +9,8 @@ pub mod DerivativeSteps
 pub mod Results
 pub mod Repeats
 pub mod Bulks
+pub mod WordLaws
+pub mod PackedSteps
+pub mod PackedProducts
+pub mod PackingSteps
+pub mod Additions

@@ -10,7 +10,7 @@ use Rattle.lie_math.specs.Monomial.{Monomial, monomial_cmp}
 use Rattle.lie_math.specs.MonomialOrder.{monomial_cmp_total, monomial_cmp-IsAntisymmetric}
 use Rattle.lie_math.specs.Integer.{coefficients, is_zero_int, int_nil}
 use Rattle.lie_math.specs.Polynomial.{WholePolynomial, polynomial_of, terms, 0ᴾ, ◌+ᴾ◌, coefficient}
-use Rattle.lie_ring.specs.Limits.{HasWideCoefficient, HasManyTerms}
+use Rattle.lie_math.specs.Limits.{HasWideCoefficient, HasManyTerms}
 use Rattle.lie_poly.specs.Bulk.{IsBulkOf, AreWithin}
 use Rattle.lie_math.specs.FiniteSum.{IsCanonical}
 use Rattle.lie_ring.proofs.Merging.{Merging, merging_start, merging_less, merging_greater, merging_both, merging_done, heads}
@@ -24,7 +24,7 @@ use Rattle.lie_ring.specs.declared.failures.PolyFail.TheVariants.{Past, NoMemory
 use Rattle.lie_ring.specs.Causes.{IsCause}
 use Rattle.lie_poly.specs.declared.tally.Tally.{Tally}
 use Rattle.lie_poly.specs.Tallies.{sums, sizes, sum_of, bulk_of, IsTallied, Tells, firsts}
-use Rattle.lie_poly.specs.Failures.{IsFull, IsWide}
+use Rattle.lie_poly.specs.Failures.{IsFull, IsWide, IsWideNumber}
 use Rattle.lie_poly.proofs.TallyLists.{sums-append, sizes-append, length-sizes, tallied_nonneg}
 
 bulk_append : (xs ys fs gs : List (Monomial × ℤ)) → IsBulkOf xs fs → IsBulkOf ys gs → IsBulkOf (xs ++ ys) (fs ++ gs)
@@ -242,3 +242,12 @@ wide_cause (Past Order) n b f h = absurd h
 wide_cause (Past Unknowns) n b f h = absurd h
 wide_cause (Past Width) n b f h = absurd h
 wide_cause NoMemory n b f h = tt
+
+pub wide_number_cause : (fail : PolyFail) (z : ℤ) (b : WholePolynomial) → (2 ^ 127 ≤ unsigned_abs z → HasWideCoefficient b) → IsWideNumber fail z → IsCause fail b
+wide_number_cause (Past Coefficient) z b f h = f h
+wide_number_cause (Past Terms) z b f h = absurd h
+wide_number_cause (Past Exponent) z b f h = absurd h
+wide_number_cause (Past Order) z b f h = absurd h
+wide_number_cause (Past Unknowns) z b f h = absurd h
+wide_number_cause (Past Width) z b f h = absurd h
+wide_number_cause NoMemory z b f h = tt

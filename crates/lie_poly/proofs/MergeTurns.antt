@@ -2,7 +2,7 @@
 use Rattle.std.proofs.Common.{◌≡◌, ◌+◌, ◌<◌, ◌≤◌, ◌^◌, List, [], ◌∷◌, ◌++◌, length, reverse, sym, ap, ap₂, ◌∙◌, subst, subst₂, ℤ, ◌+ℤ◌, Ordering, Less, Equal, Greater}
 use Rattle.std.proofs.lemmas.List.{reverse-append, reverse-reverse}
 use Rattle.lie_math.specs.Polynomial.{◌+ᴾ◌}
-use Rattle.lie_ring.specs.Limits.{HasWideCoefficient, HasManyTerms}
+use Rattle.lie_math.specs.Limits.{HasWideCoefficient, HasManyTerms}
 use Rattle.lie_poly.specs.declared.tally.Tally.{Tally}
 use Rattle.lie_poly.specs.Tallies.{sum_of, bulk_of, Tells, firsts}
 use Rattle.lie_poly.proofs.MergeSteps.{State, state_less, full_less, state_greater, full_greater, wide_equal, state_equal, full_equal, state_end}

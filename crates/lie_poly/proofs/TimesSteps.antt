@@ -3,8 +3,8 @@ use Rattle.std.proofs.Common.{◌≡◌, ℕ, zero, suc, ◌<◌, ◌≤◌, Lis
 use Rattle.std.proofs.lemmas.List.{reverse-reverse}
 use Rattle.std.specs.Prelude.{unsigned_abs}
 use Rattle.lie_math.specs.Monomial.{Monomial, ◌·◌}
-use Rattle.lie_math.specs.Polynomial.{WholePolynomial, polynomial_of, terms, term, constant, ◌+ᴾ◌, ◌*ᴾ◌}
-use Rattle.lie_math.specs.PolynomialRing.{+ᴾ-*ᴾ, 0ᴾ-*ᴾ, one-*ᴾ, polynomial_of-none}
+use Rattle.lie_math.specs.Polynomial.{WholePolynomial, polynomial_of, terms, term, ◌+ᴾ◌, ◌*ᴾ◌}
+use Rattle.lie_math.specs.PolynomialRing.{+ᴾ-*ᴾ, 0ᴾ-*ᴾ, polynomial_of-none}
 use Rattle.lie_math.specs.Limits.{FitsNumber, HasLowExponents, absolutes}
 use Rattle.lie_poly.specs.Bulk.{IsBulkOf, AreWithin}
 use Rattle.lie_math.proofs.Integer.{no_zero_divisors_ℤ, unsigned_abs_zero}
@@ -69,9 +69,6 @@ never_full (Past Order) n b l h = absurd h
 never_full (Past Unknowns) n b l h = absurd h
 never_full (Past Width) n b l h = absurd h
 never_full NoMemory n b l h = tt
-
-pub one_times : (z : ℤ) (p : WholePolynomial) → z ≡ pos 1 → constant z *ᴾ p ≡ p
-one_times z p e = ap (λ y. constant y *ᴾ p) e ∙ one-*ᴾ p
 
 module _ {C : Type 0} (value : C → ℤ) where
   -- the products by the first terms are out

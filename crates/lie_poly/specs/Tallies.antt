@@ -4,6 +4,7 @@ use Rattle.std.proofs.Common.{Ordering}
 use Rattle.lie_math.specs.Monomial.{Monomial, monomial_cmp}
 use Rattle.lie_math.specs.Integer.{is_zero_int}
 use Rattle.lie_math.specs.Polynomial.{WholePolynomial, polynomial_of}
+use Rattle.lie_ring.specs.Entries.{entries}
 use Rattle.lie_ring.specs.Firsts.{first_cmp}
 use Rattle.lie_poly.specs.Bulk.{IsBulkOf, AreWithin}
 use Rattle.lie_poly.specs.declared.tally.Tally.{Tally}
@@ -50,3 +51,7 @@ with_term m z es = cond (is_zero_int z) es ((m, z) ∷ es)
 abbrev pub without_zeros : List (Monomial × ℤ) → List (Monomial × ℤ)
 without_zeros [] = []
 without_zeros (e ∷ es) = with_term e.0 e.1 (without_zeros es)
+
+-- terms that are those, without zeros, of tallies of the sum p with the bulk b
+abbrev pub IsTold : {C : Type 0} → (C → ℤ) → List (Monomial × C) → WholePolynomial → WholePolynomial → Type 0
+IsTold {C} value es p b = (ts : List (Tally C)) × (entries value es ≡ without_zeros (sums value ts)) × Tells value ts p b

@@ -39,7 +39,8 @@ fn push_derivative<C: Ring>(
     term: &(Mono, C),
     var: u32,
 ) -> Result<(), PolyFail>
-    ensures items { OnOk result (entries C.value out.new.items ≡ entries C.value out.old.items ++ derived_list var ((term.now.0, C.value term.now.1) ∷ [])) }
+    ensures items { OnOk result (entries C.value out.new.items
+        ≡ entries C.value out.old.items ++ derived_list var ((term.now.0, C.value term.now.1) ∷ [])) }
     ensures fits { OnOk result (FitsNumber (C.value term.now.1 *ℤ pos (exponent term.now.0 var))) }
     ensures past { IfErr result (λ fail. IsWideNumber fail (C.value term.now.1 *ℤ pos (exponent term.now.0 var))) }
 {

@@ -1,5 +1,5 @@
 // A polynomial as the list of its terms.
-ghost use Rattle.std.specs.Prelude.{◌≡◌, ◌++◌, ◌∷◌, [], length, reverse, pos, unsigned_abs, IfOk, IfErr, OnOk};
+ghost use Rattle.std.specs.Prelude.{◌≡◌, ◌++◌, ◌∷◌, [], length, reverse, pos, unsigned_abs, IfOk, IfErr, IfSome, OnOk};
 ghost use Rattle.lie_math.specs.Polynomial.{polynomial_of, constant, ◌+ᴾ◌, ◌*ᴾ◌};
 ghost use Rattle.lie_math.specs.Limits.{IsWithinLimits, absolutes};
 ghost use Rattle.lie_ring.specs.Causes.{IsCause};
@@ -8,12 +8,14 @@ ghost use Rattle.lie_poly.specs.Sorted.{IsSorted};
 ghost use Rattle.lie_poly.specs.Tallies.{sum_of, IsTallied, Tells};
 ghost use Rattle.lie_poly.specs.Failures.{IsStarved};
 
+use crate::addition::add_terms;
 use crate::derivative::derive_terms;
-use crate::merge::merge;
+use crate::packing::packed_product;
 use crate::product::{multiply, times_term};
 use crate::sum::tally_terms;
 use crate::tally::{Tally, settle};
-use lie_ring::{Mono, NoMemory, PolyFail, Polynomial, Ring};
+use lie_bytes::NoMemory;
+use lie_ring::{Mono, PolyFail, Polynomial, Ring};
 use std::alloc::Global;
 use std::marker::Model;
 
@@ -66,17 +68,11 @@ impl<C: Ring> Polynomial<C> for Flat<C> {
     }
 
     fn add(&self, alloc: Global, other: &Flat<C>) -> Result<Flat<C>, PolyFail> {
-        match add_terms(alloc, self.terms.as_slice(), other.terms.as_slice()) {
-            Ok(tallies) => settled(alloc, tallies),
-            Err(fail) => Err(fail),
-        }
+        sum(alloc, self.terms.as_slice(), other.terms.as_slice())
     }
 
     fn mul(&self, alloc: Global, other: &Flat<C>) -> Result<Flat<C>, PolyFail> {
-        match multiply(alloc, self.terms.as_slice(), other.terms.as_slice()) {
-            Ok(tallies) => settled(alloc, tallies),
-            Err(fail) => Err(fail),
-        }
+        product(alloc, self.terms.as_slice(), other.terms.as_slice())
     }
 
     fn scale(&self, alloc: Global, c: &C) -> Result<Flat<C>, PolyFail> {
@@ -117,31 +113,75 @@ fn settled<C: Ring>(alloc: Global, tallies: Vec<Tally<C>>) -> Result<Flat<C>, Po
     }
 }
 
-/// The sum of two sorted lists of terms.
-fn add_terms<C: Ring>(
+/// The product of two lists of terms, the right one in print order.
+fn product<C: Ring>(
     alloc: Global,
     left: &[(Mono, C)],
     right: &[(Mono, C)],
-) -> Result<Vec<Tally<C>>, PolyFail>
-    requires left_sorted { IsSorted (entries C.value left.now) }
-    requires right_sorted { IsSorted (entries C.value right.now) }
-    ensures sum { IfOk result (λ v. Tells C.value (reverse v.items)
-        (polynomial_of (entries C.value left.now) +ᴾ polynomial_of (entries C.value right.now))
-        (polynomial_of (absolutes (entries C.value left.now)) +ᴾ polynomial_of (absolutes (entries C.value right.now)))) }
-    ensures past { IfErr result (λ fail. IsCause fail (polynomial_of (absolutes (entries C.value left.now)) +ᴾ polynomial_of (absolutes (entries C.value right.now)))) }
+) -> Result<Flat<C>, PolyFail>
+    requires { IsSorted (entries C.value right.now) }
+    ensures product { IfOk result (λ flat. flat ≡ polynomial_of (entries C.value left.now) *ᴾ polynomial_of (entries C.value right.now)) }
+    ensures fits { OnOk result (IsWithinLimits
+        (polynomial_of (absolutes (entries C.value left.now)) *ᴾ polynomial_of (absolutes (entries C.value right.now)))) }
+    ensures past { IfErr result (λ fail. IsCause fail
+        (polynomial_of (absolutes (entries C.value left.now)) *ᴾ polynomial_of (absolutes (entries C.value right.now)))) }
 {
-    let first = tally_sorted(alloc, left)?;
-    let second = tally_sorted(alloc, right)?;
-    merge(alloc, first, second)
+    match product_by_words(alloc, left, right) {
+        Some(flat) => Ok(flat),
+        None => product_by_rows(alloc, left, right),
+    }
 }
 
-/// Sorted terms as tallies.
-fn tally_sorted<C: Ring>(alloc: Global, terms: &[(Mono, C)]) -> Result<Vec<Tally<C>>, PolyFail>
-    requires { IsSorted (entries C.value terms.now) }
-    ensures sum { IfOk result (λ v. Tells C.value (reverse v.items) (polynomial_of (entries C.value terms.now)) (polynomial_of (absolutes (entries C.value terms.now)))) }
-    ensures past { IfErr result (λ fail. IsCause fail (polynomial_of (absolutes (entries C.value terms.now)))) }
+/// The product, where its monomials are packed.
+fn product_by_words<C: Ring>(
+    alloc: Global,
+    left: &[(Mono, C)],
+    right: &[(Mono, C)],
+) -> Option<Flat<C>>
+    requires { IsSorted (entries C.value right.now) }
+    ensures product { IfSome result (λ flat. flat ≡ polynomial_of (entries C.value left.now) *ᴾ polynomial_of (entries C.value right.now)) }
+    ensures fits { IfSome result (λ _. IsWithinLimits
+        (polynomial_of (absolutes (entries C.value left.now)) *ᴾ polynomial_of (absolutes (entries C.value right.now)))) }
 {
-    times_number(alloc, &C::one(), terms)
+    match packed_product(alloc, left, right) {
+        Some(terms) => Some(Flat { terms }),
+        None => None,
+    }
+}
+
+/// The product, row by row.
+fn product_by_rows<C: Ring>(
+    alloc: Global,
+    left: &[(Mono, C)],
+    right: &[(Mono, C)],
+) -> Result<Flat<C>, PolyFail>
+    requires { IsSorted (entries C.value right.now) }
+    ensures product { IfOk result (λ flat. flat ≡ polynomial_of (entries C.value left.now) *ᴾ polynomial_of (entries C.value right.now)) }
+    ensures fits { OnOk result (IsWithinLimits
+        (polynomial_of (absolutes (entries C.value left.now)) *ᴾ polynomial_of (absolutes (entries C.value right.now)))) }
+    ensures past { IfErr result (λ fail. IsCause fail
+        (polynomial_of (absolutes (entries C.value left.now)) *ᴾ polynomial_of (absolutes (entries C.value right.now)))) }
+{
+    match multiply(alloc, left, right) {
+        Ok(tallies) => settled(alloc, tallies),
+        Err(fail) => Err(fail),
+    }
+}
+
+/// The sum of two lists of terms in print order.
+fn sum<C: Ring>(alloc: Global, left: &[(Mono, C)], right: &[(Mono, C)]) -> Result<Flat<C>, PolyFail>
+    requires left_sorted { IsSorted (entries C.value left.now) }
+    requires right_sorted { IsSorted (entries C.value right.now) }
+    ensures sum { IfOk result (λ flat. flat ≡ polynomial_of (entries C.value left.now) +ᴾ polynomial_of (entries C.value right.now)) }
+    ensures fits { OnOk result (IsWithinLimits
+        (polynomial_of (absolutes (entries C.value left.now)) +ᴾ polynomial_of (absolutes (entries C.value right.now)))) }
+    ensures past { IfErr result (λ fail. IsCause fail
+        (polynomial_of (absolutes (entries C.value left.now)) +ᴾ polynomial_of (absolutes (entries C.value right.now)))) }
+{
+    match add_terms(alloc, left, right) {
+        Ok(terms) => Ok(Flat { terms }),
+        Err(fail) => Err(fail),
+    }
 }
 
 /// A number times sorted terms.
@@ -154,7 +194,8 @@ fn times_number<C: Ring>(
     ensures product { IfOk result (λ v. Tells C.value (reverse v.items)
         (constant (C.value c.now) *ᴾ polynomial_of (entries C.value terms.now))
         (constant (pos (unsigned_abs (C.value c.now))) *ᴾ polynomial_of (absolutes (entries C.value terms.now)))) }
-    ensures past { IfErr result (λ fail. IsCause fail (constant (pos (unsigned_abs (C.value c.now))) *ᴾ polynomial_of (absolutes (entries C.value terms.now)))) }
+    ensures past { IfErr result (λ fail. IsCause fail
+        (constant (pos (unsigned_abs (C.value c.now))) *ᴾ polynomial_of (absolutes (entries C.value terms.now)))) }
 {
     let one = Mono::one(alloc);
     times_term(alloc, &one, c, terms)

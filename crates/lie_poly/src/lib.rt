@@ -1,12 +1,16 @@
 //! Polynomials as sorted lists of terms.
 #![tactic(auto)]
 
+mod addition;
 mod derivative;
 mod flat;
 mod merge;
+mod packed;
+mod packing;
 mod product;
 mod sum;
 mod tally;
+mod words;
 
 pub use flat::Flat;
 

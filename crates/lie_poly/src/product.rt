@@ -24,7 +24,8 @@ pub fn multiply<C: Ring>(
     ensures product { IfOk result (λ v. Tells C.value (reverse v.items)
         (polynomial_of (entries C.value left.now) *ᴾ polynomial_of (entries C.value right.now))
         (polynomial_of (absolutes (entries C.value left.now)) *ᴾ polynomial_of (absolutes (entries C.value right.now)))) }
-    ensures past { IfErr result (λ fail. IsCause fail (polynomial_of (absolutes (entries C.value left.now)) *ᴾ polynomial_of (absolutes (entries C.value right.now)))) }
+    ensures past { IfErr result (λ fail. IsCause fail
+        (polynomial_of (absolutes (entries C.value left.now)) *ᴾ polynomial_of (absolutes (entries C.value right.now)))) }
 {
     if left.len() == 0 {
         return Ok(Vec::new(alloc));
@@ -50,7 +51,8 @@ pub fn times_term<C: Ring>(
     ensures product { IfOk result (λ v. Tells C.value (reverse v.items)
         (term mono.now (C.value c.now) *ᴾ polynomial_of (entries C.value terms.now))
         (term mono.now (pos (unsigned_abs (C.value c.now))) *ᴾ polynomial_of (absolutes (entries C.value terms.now)))) }
-    ensures past { IfErr result (λ fail. IsCause fail (term mono.now (pos (unsigned_abs (C.value c.now))) *ᴾ polynomial_of (absolutes (entries C.value terms.now)))) }
+    ensures past { IfErr result (λ fail. IsCause fail
+        (term mono.now (pos (unsigned_abs (C.value c.now))) *ᴾ polynomial_of (absolutes (entries C.value terms.now)))) }
 {
     let mut out = Vec::new(alloc);
     if c.size() == 0 {

@@ -13,7 +13,9 @@ use std::alloc::Global;
 
 /// The sum of any terms, in any order.
 pub fn tally_terms<C: Ring>(alloc: Global, terms: &[(Mono, C)]) -> Result<Vec<Tally<C>>, PolyFail>
-    ensures sum { IfOk result (λ v. Tells C.value (reverse v.items) (polynomial_of (entries C.value terms.now)) (polynomial_of (absolutes (entries C.value terms.now)))) }
+    ensures sum { IfOk result (λ v. Tells C.value (reverse v.items)
+        (polynomial_of (entries C.value terms.now))
+        (polynomial_of (absolutes (entries C.value terms.now)))) }
     ensures past { IfErr result (λ fail. IsCause fail (polynomial_of (absolutes (entries C.value terms.now)))) }
 {
     if terms.len() == 0 {
@@ -30,7 +32,9 @@ pub fn tally_terms<C: Ring>(alloc: Global, terms: &[(Mono, C)]) -> Result<Vec<Ta
 
 /// One term, which is none where its coefficient is 0.
 fn tally_term<C: Ring>(alloc: Global, term: &(Mono, C)) -> Result<Vec<Tally<C>>, PolyFail>
-    ensures sum { IfOk result (λ v. Tells C.value (reverse v.items) (polynomial_of (entries C.value (term.now ∷ []))) (polynomial_of (absolutes (entries C.value (term.now ∷ []))))) }
+    ensures sum { IfOk result (λ v. Tells C.value (reverse v.items)
+        (polynomial_of (entries C.value (term.now ∷ [])))
+        (polynomial_of (absolutes (entries C.value (term.now ∷ []))))) }
     ensures past { IfErr result (λ fail. IsCause fail (polynomial_of (absolutes (entries C.value (term.now ∷ []))))) }
 {
     let mut out = Vec::new(alloc);

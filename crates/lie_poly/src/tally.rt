@@ -4,14 +4,15 @@ ghost use Rattle.lie_ring.specs.Entries.{entries};
 ghost use Rattle.lie_poly.specs.Tallies.{sums, without_zeros, with_term};
 ghost use Rattle.lie_poly.specs.Failures.{IsFull, IsWide};
 
-use lie_ring::{Mono, NoMemory, PastKind, PolyFail, Ring};
+use lie_bytes::NoMemory;
+use lie_ring::{Mono, PastKind, PolyFail, Ring};
 use std::alloc::Global;
 
 /// The greatest absolute value of a coefficient.
-const MAX_SIZE: u128 = i128::MAX as u128;
+pub const MAX_SIZE: u128 = i128::MAX as u128;
 
 /// The greatest number of terms.
-const MAX_TERMS: usize = 1_000_000;
+pub const MAX_TERMS: usize = 1_000_000;
 
 /// A monomial with the sum of its coefficients so far, and the sum of their absolute values.
 ///

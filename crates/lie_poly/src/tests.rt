@@ -1,6 +1,10 @@
 // Each call of a polynomial, at flat polynomials over whole numbers, through the trait's bound.
 use crate::Flat;
-use lie_ring::{Mono, NoMemory, PastKind, PolyFail, Polynomial, Ring, Whole};
+use lie_bytes::NoMemory;
+use lie_ring::{
+    Mono, PastKind, PolyFail, Polynomial, Ring, Whole, constant_polynomial, term_polynomial,
+    variable_polynomial,
+};
 use std::alloc::Global;
 use std::process::Abort;
 use std::test::Fail;
@@ -224,6 +228,28 @@ fn multiples_derivatives_and_copies(rt: HostRuntime) {
     assert!(rt; none.len() == 0);
 }
 
+/// A number times a monomial, where its exponents are low.
+fn one_term<P: Polynomial<Whole>>(alloc: Global, mono: Mono, number: Whole) -> Result<P, PolyFail> {
+    if !mono.has_low_exponents() {
+        return Err(PolyFail::Past(PastKind::Exponent));
+    }
+    Ok(term_polynomial(alloc, mono, number)?)
+}
+
+#[test]
+fn polynomials_of_one_term(rt: HostRuntime) -> Result<(), Fail> {
+    let alloc = rt.alloc();
+    let term: Flat<Whole> = one_term(alloc, Mono::power(alloc, 3, 2), Whole::one().neg()).map_err(
+        |_| "a term",
+    )?;
+    let number: Flat<Whole> = constant_polynomial(alloc, Whole::one().neg())?;
+    let variable: Flat<Whole> = variable_polynomial(alloc, 3)?;
+    assert!(rt; has_terms(alloc, &term, &[(&[(3, 2)], -1)]));
+    assert!(rt; has_terms(alloc, &number, &[(&[], -1)]));
+    assert!(rt; has_terms(alloc, &variable, &[(&[(3, 1)], 1)]));
+    Ok(())
+}
+
 /// The sum of the powers of a variable, from 1 on.
 fn powers(alloc: Global, var: u32, count: u32) -> Result<Flat<Whole>, PolyFail> {
     let mut terms = Vec::new(alloc);
@@ -241,6 +267,18 @@ fn rectangle(alloc: Global, width: u32, height: u32) -> Result<Flat<Whole>, Poly
     let left = powers(alloc, 0, width)?;
     let right = powers(alloc, 1, height)?;
     left.mul(alloc, &right)
+}
+
+#[test]
+fn long_products(rt: HostRuntime) -> Result<(), Fail> {
+    let alloc = rt.alloc();
+    let x = powers(alloc, 0, 12).map_err(|_| "12 terms")?;
+    let y = powers(alloc, 7, 12).map_err(|_| "12 terms")?;
+    let square = x.mul(alloc, &x).map_err(|_| "23 terms")?;
+    let rectangle = x.mul(alloc, &y).map_err(|_| "144 terms")?;
+    assert_eq!(rt; square.len(), 23);
+    assert_eq!(rt; rectangle.len(), 144);
+    Ok(())
 }
 
 #[test]

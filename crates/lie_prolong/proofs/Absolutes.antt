@@ -18,7 +18,7 @@ use Rattle.lie_math.specs.Monomial.{Monomial}
 use Rattle.lie_math.specs.Polynomial.{WholePolynomial, terms, coefficient, 0ᴾ, ◌+ᴾ◌, ◌*ᴾ◌, constant, negᴾ}
 use Rattle.lie_math.specs.PolynomialRing.{negᴾ_l, one-*ᴾ}
 use Rattle.lie_math.proofs.Limits.{IsNonNegative, nonneg_sum}
-use Rattle.lie_jet.proofs.FormBounds.{coefficient_absolute, absolute_none, IsBound, sum_bound, none_bound}
+use Rattle.lie_jet.proofs.PolynomialBounds.{coefficient_absolute, absolute_none, IsBound, sum_bound, none_bound}
 
 pub absolute-nonneg : (p : WholePolynomial) → IsNonNegative p → absolute p ≡ p
 absolute-nonneg p h = ext terms (absolute p) p (λ m. coefficient_absolute p m ∙ sym (h.plain m))

@@ -2,7 +2,7 @@
 use Rattle.std.specs.Prelude.{◌≡◌, ℕ, ◌+◌, ◌<◌, ◌≤◌, ◌^◌, cond, List, [], ◌∷◌, length, ℤ, pos, ◌+ℤ◌, unsigned_abs}
 use Rattle.std.proofs.Common.{refl, sym, ap, ap₂, subst, ◌∙◌, arith, is_eq}
 use Rattle.lie_math.specs.FiniteSumLaws.{value-of, value-plus, list-of, of_list}
-use Rattle.lie_ring.specs.Limits.{HasWideCoefficient, HasHighExponent, HasManyTerms}
+use Rattle.lie_math.specs.Limits.{HasWideCoefficient, HasHighExponent, HasManyTerms}
 use Rattle.lie_math.specs.Monomial.{Monomial, ◌·◌, single, powers}
 use Rattle.lie_math.specs.Polynomial.{WholePolynomial, coefficient, polynomial_of, terms, ◌*ᴾ◌, variable}
 use Rattle.lie_math.specs.PolynomialRing.{*ᴾ_comm}

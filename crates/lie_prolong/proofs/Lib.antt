@@ -1,11 +1,6 @@
-pub mod JetLists
 pub mod Absolutes
 pub mod Positive
 pub mod Causes
-pub mod LastIndex
 pub mod Coefficients
 pub mod Multiples
 pub mod Recursion
-pub mod SymbolicLimits
-pub mod SymbolicMultiples
-pub mod SymbolicSteps

@@ -1,5 +1,5 @@
 -- What the making of one coefficient meets on the way is covered by its bulk.
-use Rattle.std.specs.Prelude.{◌≡◌, ℕ, suc, ◌<◌, List, length, ℤ, pos, unsigned_abs, Result, Ok, Err, OnOk}
+use Rattle.std.specs.Prelude.{◌≡◌, ℕ, suc, ◌<◌, List, length, ℤ, pos, unsigned_abs}
 use Rattle.std.proofs.Common.{sym, ap, ap₂, subst, subst₂, ◌∙◌, arith, get_or}
 use Rattle.std.proofs.lemmas.List.{get_or_read}
 use mathlib.Core.Path.{fun_ext}
@@ -21,7 +21,7 @@ use Rattle.lie_prolong.proofs.Absolutes.{bounded_sum_of, bounded_signed, compone
 use Rattle.lie_prolong.proofs.Positive.{positive_absolute, positive_bounded, total_is_positive, times_is_positive}
 use Rattle.lie_prolong.proofs.Coefficients.{first_covered, one_covered}
 use Rattle.lie_jet.proofs.Absolutes.{absolute_twice}
-use Rattle.lie_jet.proofs.FormBounds.{IsBound, covered_absolute, sum_bound}
+use Rattle.lie_jet.proofs.PolynomialBounds.{IsBound, covered_absolute, sum_bound}
 
 pub component_read : (V : VectorField) (ps : List WholePolynomial) (i k : ℕ) (r : WholePolynomial) → ps ≡ V.parts → k ≡ i → i < length V.parts → r ≡ get_or ps k r → r ≡ component V i
 component_read V ps i k r e f h q = get_or_read V.parts i r h (q ∙ ap₂ (λ (xs : List WholePolynomial) (n : ℕ). get_or xs n r) e f) 0ᴾ
@@ -94,7 +94,3 @@ pub bulk_made : (S : Space) (V W : VectorField) (k a : ℕ) (J : List ℕ) (P Q 
 bulk_made S V W k a J P Q b z u e f g =
     g ∙ ap (λ y. total_derivative S k Q +ᴾ constant y *ᴾ multiples S (component W) k a J) u ∙ ap (λ p. total_derivative S k Q +ᴾ p) (one-*ᴾ _)
     ∙ ap₂ (λ p F. total_derivative S k p +ᴾ multiples S F k a J) f (components_are V W e)
-
-pub always : {A E : Type 0} {B : Type 0} (r : Result A E) → B → OnOk r B
-always (Ok a) b = b
-always (Err e) b = tt

@@ -16,7 +16,7 @@ use Rattle.lie_jet.specs.Jets.{IsSmall}
 use Rattle.lie_jet.proofs.TotalSteps.{size_times}
 use Rattle.lie_prolong.proofs.Absolutes.{bounded_more, left_over, left_over_plain, left_over_sum, absolute-nonneg}
 use Rattle.lie_jet.proofs.TotalBounds.{absolute_variable, term_bound, total_bound_of_term}
-use Rattle.lie_jet.proofs.FormBounds.{IsBound, covered_absolute, none_bound, sum_bound}
+use Rattle.lie_jet.proofs.PolynomialBounds.{IsBound, covered_absolute, none_bound, sum_bound}
 
 pub record IsPositive (F : WholePolynomial → WholePolynomial) : Type 0 where
   pub plus : (p q : WholePolynomial) → F (p +ᴾ q) ≡ F p +ᴾ F q

@@ -1,4 +1,1 @@
-pub mod JetLists
 pub mod Bulks
-pub mod Lowered
-pub mod SymbolicBulks

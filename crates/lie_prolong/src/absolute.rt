@@ -2,8 +2,8 @@
 ghost use Rattle.std.specs.Prelude.{◌≡◌, IfOk};
 ghost use Rattle.lie_prolong.specs.Bulks.{absolute_field};
 
+use lie_bytes::NoMemory;
 use lie_jet::{Field, absolute_polynomial};
-use lie_ring::NoMemory;
 use std::alloc::Global;
 
 /// The field with the absolute values of all coefficients.

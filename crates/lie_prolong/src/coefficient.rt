@@ -11,11 +11,13 @@ ghost use Rattle.lie_geometry.specs.Prolongation.{total_derivative, coefficient_
 ghost use Rattle.lie_ring.specs.Causes.{IsCause};
 ghost use Rattle.lie_jet.specs.Jets.{coordinate_of, IsJet, IsSmall};
 ghost use Rattle.lie_prolong.specs.Bulks.{absolute_field, multiples, bulk_at};
-ghost use Rattle.lie_prolong.specs.JetLists.{AreFirstValues};
+ghost use Rattle.lie_jet.specs.JetLists.{AreFirstValues};
 
-use crate::lowering::lowered;
-use lie_jet::{Field, Jet, JetPoly, Space, absolute_polynomial, jet_number, raise_jet, total};
-use lie_ring::{Mono, NoMemory, PolyFail, Polynomial, Ring, Whole};
+use lie_bytes::NoMemory;
+use lie_jet::{
+    Field, Jet, JetPoly, Space, absolute_polynomial, jet_number, lowered, raise_jet, total,
+};
+use lie_ring::{Mono, PolyFail, Polynomial, Ring, Whole};
 use std::alloc::Global;
 
 /// The prolonged coefficient at the jet, where those at all jets before it are given, and the field with absolute values.
@@ -60,10 +62,7 @@ fn copy_part(alloc: Global, part: &JetPoly) -> Result<JetPoly, PolyFail>
     ensures past { IfErr result (λ fail. IsCause fail (absolute part.now)) }
 {
     let _ = part.len();
-    match part.copy(alloc) {
-        Ok(made) => Ok(made),
-        Err(NoMemory) => Err(PolyFail::NoMemory),
-    }
+    Ok(part.copy(alloc)?)
 }
 
 /// The step of the recursion from the coefficient at the jet to the one at the jet derived by `k`: first with absolute values,
@@ -82,9 +81,12 @@ fn derived(
     requires sizes { sizes.now ≡ absolute_field field.now }
     requires jet { IsJet space 11 jet.now }
     requires low { IsIn (is_below (coordinates_up_to space 11)) before.now }
-    ensures value { IfOk result (λ made. made ≡ total_derivative space k before.now +ᴾ negᴾ (multiples space (component field.now) k jet.now.dep (take space.p jet.now.counts))) }
-    ensures fits { OnOk result (IsWithinLimits (total_derivative space k (absolute before.now) +ᴾ multiples space (λ i. absolute (component field.now i)) k jet.now.dep (take space.p jet.now.counts))) }
-    ensures past { IfErr result (λ fail. IsCause fail (total_derivative space k (absolute before.now) +ᴾ multiples space (λ i. absolute (component field.now i)) k jet.now.dep (take space.p jet.now.counts))) }
+    ensures value { IfOk result (λ made. made ≡ total_derivative space k before.now +ᴾ negᴾ
+        (multiples space (component field.now) k jet.now.dep (take space.p jet.now.counts))) }
+    ensures fits { OnOk result (IsWithinLimits (total_derivative space k (absolute before.now) +ᴾ multiples space
+        (λ i. absolute (component field.now i)) k jet.now.dep (take space.p jet.now.counts))) }
+    ensures past { IfErr result (λ fail. IsCause fail (total_derivative space k (absolute before.now) +ᴾ multiples space
+        (λ i. absolute (component field.now i)) k jet.now.dep (take space.p jet.now.counts))) }
 {
     let size = absolute_polynomial(alloc, before)?;
     let bulk = step(alloc, space, sizes, k, jet, &size, Whole::one())?;
@@ -107,8 +109,10 @@ fn step(
     requires jet { IsJet space 11 jet.now }
     requires low { IsIn (is_below (coordinates_up_to space 11)) before.now }
     requires unit { unsigned_abs sign ≡ 1 }
-    ensures value { IfOk result (λ made. made ≡ total_derivative space k before.now +ᴾ constant sign *ᴾ multiples space (component field.now) k jet.now.dep (take space.p jet.now.counts)) }
-    ensures past { IfErr result (λ fail. IsCause fail (total_derivative space k (absolute before.now) +ᴾ multiples space (λ i. absolute (component field.now i)) k jet.now.dep (take space.p jet.now.counts))) }
+    ensures value { IfOk result (λ made. made ≡ total_derivative space k before.now +ᴾ constant sign *ᴾ multiples space
+        (component field.now) k jet.now.dep (take space.p jet.now.counts)) }
+    ensures past { IfErr result (λ fail. IsCause fail (total_derivative space k (absolute before.now) +ᴾ multiples space
+        (λ i. absolute (component field.now i)) k jet.now.dep (take space.p jet.now.counts))) }
 {
     let derivative = total(alloc, space, k, before)?;
     let sum = sum_of_multiples(alloc, space, field, k, jet)?;
@@ -127,7 +131,8 @@ fn sum_of_multiples(
     requires field { IsFieldOn space field.now }
     requires jet { IsJet space 11 jet.now }
     ensures sum { IfOk result (λ made. made ≡ multiples space (component field.now) k jet.now.dep (take space.p jet.now.counts)) }
-    ensures past { IfErr result (λ fail. IsCause fail (multiples space (λ i. absolute (component field.now i)) k jet.now.dep (take space.p jet.now.counts))) }
+    ensures past { IfErr result (λ fail. IsCause fail (multiples space (λ i. absolute (component field.now i)) k jet.now.dep
+        (take space.p jet.now.counts))) }
 {
     let mut sum = JetPoly::zero(alloc);
     for i in 0..space.p {
@@ -147,10 +152,8 @@ fn multiple(alloc: Global, space: Space, p: &JetPoly, k: u8, var: u32) -> Result
     ensures past { IfErr result (λ fail. IsCause fail (total_derivative space k (absolute p.now) *ᴾ variable_polynomial var)) }
 {
     let derivative = total(alloc, space, k, p)?;
-    match variable(alloc, var) {
-        Ok(variable) => derivative.mul(alloc, &variable),
-        Err(NoMemory) => Err(PolyFail::NoMemory),
-    }
+    let variable = variable(alloc, var)?;
+    derivative.mul(alloc, &variable)
 }
 
 /// A variable as a polynomial.

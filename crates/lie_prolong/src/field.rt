@@ -6,13 +6,12 @@ ghost use Rattle.lie_geometry.specs.Invariance.{IsFieldOn};
 ghost use Rattle.lie_geometry.specs.Prolongation.{coefficient_at};
 ghost use Rattle.lie_ring.specs.Causes.{IsCause};
 ghost use Rattle.lie_prolong.specs.Bulks.{bulk_at};
-ghost use Rattle.lie_prolong.specs.JetLists.{AreValuesUpTo, HoldsUpTo, ComesFirst};
+ghost use Rattle.lie_jet.specs.JetLists.{AreValuesUpTo, HoldsUpTo, ComesFirst};
 
 use crate::absolute::absolute_field;
 use crate::coefficient::coefficient;
-use crate::jets::jets_up_to;
-use lie_jet::{Field, Jet, JetPoly, Space};
-use lie_ring::{NoMemory, PolyFail};
+use lie_jet::{Field, Jet, JetPoly, Space, jets_up_to, space_is_small};
+use lie_ring::PolyFail;
 use std::alloc::Global;
 
 /// The prolonged coefficients of the field times its denominator, at all jets of order 0 to `order`, which is at most 6, in
@@ -31,23 +30,16 @@ pub fn prolong_field(
     requires field { IsFieldOn space field.now }
     ensures coefficients { IfOk result (λ made. AreValuesUpTo space order (coefficient_at space (component field.now)) made.items) }
     ensures fits { OnOk result (HoldsUpTo space order (λ c. IsWithinLimits (bulk_at space (component field.now) c))) }
-    ensures past { IfErr result (λ fail. ComesFirst space order (λ c. IsWithinLimits (bulk_at space (component field.now) c)) (λ c. IsCause fail (bulk_at space (component field.now) c))) }
+    ensures past { IfErr result (λ fail. ComesFirst space order (λ c. IsWithinLimits (bulk_at space (component field.now) c))
+        (λ c. IsCause fail (bulk_at space (component field.now) c))) }
 {
-    let _ = &space.p;
-    let jets = match jets_up_to(alloc, space, order) {
-        Ok(jets) => jets,
-        Err(NoMemory) => return Err(PolyFail::NoMemory),
-    };
-    let sizes = match absolute_field(alloc, field) {
-        Ok(sizes) => sizes,
-        Err(NoMemory) => return Err(PolyFail::NoMemory),
-    };
+    space_is_small(space);
+    let jets = jets_up_to(alloc, space, order)?;
+    let absolute = absolute_field(alloc, field)?;
     let mut made = Vec::new(alloc);
     for jet in &jets {
-        let next = coefficient(alloc, space, field, &sizes, made.as_slice(), jet)?;
-        if made.push((*jet, next)).is_err() {
-            return Err(PolyFail::NoMemory);
-        }
+        let next = coefficient(alloc, space, field, &absolute, made.as_slice(), jet)?;
+        made.push((*jet, next))?;
     }
     Ok(made)
 }

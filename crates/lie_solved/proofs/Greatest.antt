@@ -15,7 +15,7 @@ use Rattle.lie_jet.specs.Jets.{coordinate_of, IsJet, IsSmall}
 use Rattle.lie_jet.specs.declared.jet.Jet.{Jet}
 use Rattle.lie_solved.specs.Leads.{ranked}
 use Rattle.lie_solved.specs.Equations.{is_greater, IsGreatestOf, IsBest}
-use Rattle.lie_ring.proofs.Fronts.{every-append}
+use Rattle.lie_math.proofs.EveryElement.{every-append}
 
 -- ---- tests
 ltb_leb : (a b : ℕ) → ltb a b ≡ true → leb b a ≡ false
@@ -27,10 +27,10 @@ reversed Equal e = absurd (true≢false (sym e))
 reversed Greater e = refl
 
 -- ---- the order of derivatives
-rank_itself : (d : Ranked) → is_gt (degree_rank d d) ≡ false
+pub rank_itself : (d : Ranked) → is_gt (degree_rank d d) ≡ false
 rank_itself d = ap is_gt (tied_itself degree_rank_is_ranking.total d)
 
-rank_through : (d e f : Ranked) → is_gt (degree_rank d e) ≡ false → is_gt (degree_rank f e) ≡ true → is_gt (degree_rank d f) ≡ false
+pub rank_through : (d e f : Ranked) → is_gt (degree_rank d e) ≡ false → is_gt (degree_rank f e) ≡ true → is_gt (degree_rank d f) ≡ false
 rank_through d e f h k = upto degree_rank_is_ranking.total d e f h (ap is_gt (degree_rank_is_ranking.total.antisymm e f) ∙ reversed (degree_rank f e) k)
 
 module _ (S : Space) where

@@ -5,8 +5,8 @@ use Rattle.std.specs.List.{AllByRecursion as Every}
 use Rattle.std.specs.Ordering.{is_gt}
 use Rattle.std.proofs.lemmas.Bool.{le-leb}
 use Rattle.std.proofs.lemmas.Bool.Decides.{leb_tells}
-use Rattle.lie_gram.proofs.CanonicalLeads.{high_number}
-use Rattle.lie_ring.proofs.Fronts.{every-weaken}
+use Rattle.lie_system.proofs.LeadNumbers.{high_number}
+use Rattle.lie_math.proofs.EveryElement.{every-weaken}
 use Rattle.lie_math.specs.Monomial.{Monomial}
 use Rattle.lie_math.specs.Polynomial.{WholePolynomial}
 use Rattle.lie_geometry.specs.Coordinates.{Space, Coordinate, order_of, number, coordinate, coordinates_up_to}
@@ -16,15 +16,16 @@ use Rattle.lie_ring.specs.Rankings.{degree_rank}
 use Rattle.lie_jet.specs.Jets.{coordinate_of, IsJet, IsSmall}
 use Rattle.lie_jet.specs.declared.jet.Jet.{Jet}
 use Rattle.lie_jet.proofs.NumberedJets.{is_coordinate}
-use Rattle.lie_gram.specs.Meaning.{EquationRead}
+use Rattle.lie_system.specs.Systems.{EquationRead}
 use Rattle.lie_solved.specs.Leads.{Occurs, HasNoDerivative, IsLeadBy, IsGreatest, ranked}
-use Rattle.lie_solved.specs.Equations.{IsLow, IsWritten, IsGreatestOf, HasLead, is_greater, variables_of}
+use Rattle.lie_system.specs.Written.{IsLow, IsWritten}
+use Rattle.lie_solved.specs.Equations.{IsGreatestOf, HasLead, is_greater, variables_of}
 use Rattle.lie_solved.proofs.Variables.{every_found, every_in, in_every, every_occurs, occurs_in}
 
 less_true : (a b : ℕ) → ltb a b ≡ true → a < b
 less_true a b e = grind (arith, leb_tells)
 
-not_less : (a b : ℕ) → ltb a b ≡ true → b ≤ a → ⊥
+pub not_less : (a b : ℕ) → ltb a b ≡ true → b ≤ a → ⊥
 not_less a b e h = grind (arith, leb_tells)
 
 module _ (S : Space) where

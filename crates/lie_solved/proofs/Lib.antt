@@ -5,6 +5,8 @@ pub mod LinearTerms
 pub mod OtherTerms
 pub mod Leading
 pub mod RuleSteps
-pub mod FileEquations
 pub mod OneForm
 pub mod ReadyRules
+pub mod SolvedOrRefused
+pub mod AlikeEquations
+pub mod DerivativesAlone

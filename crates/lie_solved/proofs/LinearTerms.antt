@@ -7,11 +7,12 @@ use Rattle.lie_math.specs.Monomial.{Monomial, exponent, powers, single}
 use Rattle.lie_math.specs.Polynomial.{WholePolynomial, terms, coefficient}
 use Rattle.lie_math.proofs.FiniteSum.{entries_of}
 use Rattle.lie_math.proofs.Monomial.{exponent-single, same_variable}
+use Rattle.lie_system.proofs.Entries.{at_entry}
+use Rattle.lie_system.proofs.LeadNumbers.{list-single}
 use Rattle.lie_solved.specs.Leads.{IsLinearIn}
 use Rattle.lie_solved.specs.Equations.{IsLinearWith}
-use Rattle.lie_gram.proofs.FileTerms.{at_entry}
-use Rattle.lie_gram.proofs.CanonicalLeads.{list-single}
-use Rattle.lie_ring.proofs.Fronts.{every-append, every_at, take_more}
+use Rattle.lie_math.proofs.EveryElement.{every-append, every_at}
+use Rattle.lie_ring.proofs.Fronts.{take_more}
 
 pub single_by_list : (m : Monomial) (w : ℕ) (ps : List (ℕ × ℕ)) → ps ≡ m.list → length ps ≡ 1 → (get_or ps 0 (0, 0)).0 ≡ w → (get_or ps 0 (0, 0)).1 ≡ 1 → m ≡ single w
 single_by_list m w [] e l v o = absurd (omega arith)
@@ -24,7 +25,7 @@ list_of_single m w ps e s = e ∙ ap (λ (n : Monomial). n.list) s ∙ list-sing
 pub exponent_single : (w : ℕ) → exponent (single w) w ≡ 1
 exponent_single w = exponent-single w w ∙ ap (λ b. cond b 1 0) (same_variable w)
 
-entries_have : (P : WholePolynomial) → Every (λ (e : Monomial × ℤ). (coefficient P e.0 ≡ e.1) × ¬ (e.1 ≡ pos 0)) P.list
+pub entries_have : (P : WholePolynomial) → Every (λ (e : Monomial × ℤ). (coefficient P e.0 ≡ e.1) × ¬ (e.1 ≡ pos 0)) P.list
 entries_have P = entries_of terms P (λ e. (coefficient P e.0 ≡ e.1) × ¬ (e.1 ≡ pos 0)) (λ e is apart. (is, apart))
 
 pub entry_at : (P : WholePolynomial) (ts : List (Monomial × ℤ)) → P.list ≡ ts → (i : ℕ) (t : Monomial × ℤ) → i < length ts → t ≡ get_or ts i t → (coefficient P t.0 ≡ t.1) × ¬ (t.1 ≡ pos 0)

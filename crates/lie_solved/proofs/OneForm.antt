@@ -1,6 +1,6 @@
 -- A system has one solved form at most, and none where it is refused.
 use Rattle.std.specs.Prelude.{◌≡◌, ℕ, suc, ◌+◌, ◌<◌, ◌≤◌, ◌⊎◌, ◌||◌, Bool, true, false, cond, eqb, T, List, [], ◌∷◌, ◌++◌, length, get_or, ℤ, pos, negsuc, ◌+ℤ◌, ◌*ℤ◌, Option, Some, None, AllPairs}
-use Rattle.std.proofs.Common.{refl, sym, ap, ap₂, subst, ◌∙◌, arith, inl, inr, true≢false, eqb→eq, Ordering, Less, Equal, Greater}
+use Rattle.std.proofs.Common.{refl, sym, ap, ap₂, subst, ◌∙◌, arith, inl, inr, ltb, true≢false, eqb→eq, Ordering, Less, Equal, Greater}
 use borrow.Author.Differences.{ints}
 use Rattle.std.specs.List.{AllByRecursion as Every}
 use Rattle.std.specs.Ordering.{eq_by_cmp, ordering_reverse}
@@ -19,14 +19,17 @@ use Rattle.lie_geometry.specs.SolvedEquations.{SolvedEquation, difference, is_le
 use Rattle.lie_geometry.proofs.Numbers.{coordinate_is}
 use Rattle.lie_ring.specs.Rankings.{degree_rank}
 use Rattle.lie_ring.specs.DegreeRanking.{degree_rank_is_ranking}
-use Rattle.lie_gram.specs.Meaning.{EquationRead}
+use Rattle.lie_system.specs.Systems.{EquationRead}
 use Rattle.lie_solved.specs.declared.solved.NotKind.TheVariants.{NoDerivative, LeadNotLinear, LeadRepeated, LeadInside}
 use Rattle.lie_solved.specs.Leads.{IsGreatest, IsLead, IsLeadBy, IsLinearIn, ranked}
 use Rattle.lie_solved.specs.SolvedForms.{IsSolvedBy, AreSolvedBy}
 use Rattle.lie_solved.specs.Refusals.{HasNoLead}
 use Rattle.lie_solved.specs.Laws.{SolvedFormIsOne, RefusedHasNoForm}
 use Rattle.lie_solved.proofs.LinearTerms.{exponent_single}
-use Rattle.lie_gram.proofs.PrintedVariables.{not_less_test}
+use Rattle.std.proofs.lemmas.Bool.Decides.{nat_tests}
+
+pub not_less_test : (a b : ℕ) → b ≤ a → ltb a b ≡ false
+not_less_test a b h = grind (arith, nat_tests, h)
 
 -- ---- one lead
 ranked_same : (S : Space) (c d : Coordinate) → IsCoordinate S c → IsCoordinate S d → S.p ≤ number S c → S.p ≤ number S d → ranked c ≡ ranked d → c ≡ d
@@ -43,7 +46,7 @@ tied Equal s e h k = refl
 tied Greater s e h k = absurd (h refl)
 
 module _ (S : Space) (is : IsSpace S) where
-  greatest_same : (P : WholePolynomial) (v w : ℕ) → IsGreatest S P v → IsGreatest S P w → v ≡ w
+  pub greatest_same : (P : WholePolynomial) (v w : ℕ) → IsGreatest S P v → IsGreatest S P w → v ≡ w
   greatest_same P v w h k =
       let cv = coordinate_is S is.0 is.1 v in
       let cw = coordinate_is S is.0 is.1 w in

@@ -6,15 +6,14 @@ use Rattle.lie_math.specs.Monomial.{single}
 use Rattle.lie_geometry.specs.Coordinates.{Space}
 use Rattle.lie_geometry.specs.CoordinateLaws.{IsSpace}
 use Rattle.lie_geometry.specs.SolvedEquations.{SolvedEquation, is_lead}
-use Rattle.lie_gram.specs.Meaning.{EquationRead}
+use Rattle.lie_system.specs.Systems.{EquationRead}
 use Rattle.lie_solved.specs.declared.solved.NotKind.{NotKind}
 use Rattle.lie_solved.specs.declared.solved.NotKind.TheVariants.{NoDerivative, LeadNotLinear, LeadRepeated, LeadInside}
 use Rattle.lie_solved.specs.Leads.{HasNoDerivative, IsLinearIn}
 use Rattle.lie_solved.specs.SolvedForms.{IsSolvedBy, AreSolvedBy, HaveDistinctLeads}
 use Rattle.lie_solved.specs.Refusals.{ArePassed, IsReached, HasLeadNotLinear, HasLeadRepeated, HasNoLead, IsFirstInside, IsRefused}
 use Rattle.lie_solved.specs.Laws.{RefusalIsOne}
-use Rattle.lie_solved.proofs.OneForm.{lead_same, apart, solved_linear, has_single, solved_same, all_same, middle_of, no_repeat, every_middle}
-use Rattle.lie_gram.proofs.PrintedVariables.{not_less_test}
+use Rattle.lie_solved.proofs.OneForm.{lead_same, apart, solved_linear, has_single, solved_same, all_same, middle_of, no_repeat, every_middle, not_less_test}
 
 -- ---- lists that are parted at two places
 head_same : {X : Type 0} (x y : X) (xs ys : List X) → x ∷ xs ≡ y ∷ ys → x ≡ y

@@ -1,11 +1,10 @@
 -- The terms without a variable: what they sum to, that they stand within the limits, and the two sides that they make.
-use Rattle.std.specs.Prelude.{◌≡◌, ℕ, zero, suc, ◌+◌, ◌<◌, ◌≤◌, ◌^◌, ◌⊎◌, Bool, true, false, cond, not, eqb, T, List, [], ◌∷◌, ◌++◌, length, take, get_or, ℤ, pos, negsuc, ◌+ℤ◌, ◌*ℤ◌, neg_ℤ, unsigned_abs, Ok, Err, IfErr}
+use Rattle.std.specs.Prelude.{◌≡◌, ℕ, zero, suc, ◌+◌, ◌<◌, ◌≤◌, ◌^◌, ◌⊎◌, Bool, true, false, cond, not, eqb, T, List, [], ◌∷◌, ◌++◌, length, take, get_or, ℤ, pos, negsuc, ◌+ℤ◌, ◌*ℤ◌, neg_ℤ, unsigned_abs}
 use Rattle.std.proofs.Common.{refl, sym, ap, ap₂, subst, ◌∙◌, arith, add-one, inl, inr, is_lt, true≢false, eqb→eq}
 use borrow.Author.Differences.{ints}
 use Rattle.std.proofs.Math.Seq.{take-suc}
 use Rattle.std.specs.List.{AllByRecursion as Every}
 use Rattle.std.specs.Ordering.{eq_by_cmp}
-use Rattle.std.specs.declared.result.Result.{Result}
 use Rattle.lie_math.proofs.Integer.{zero_or_not}
 use Rattle.lie_math.specs.SortedSum.{value_at, below_all}
 use Rattle.lie_math.specs.Canonical.{both, first, second}
@@ -137,10 +136,6 @@ rest_within w b P h =
 
 pub rest_starved : (w : ℕ) (b : Bool) (P : WholePolynomial) (rest : List (Monomial × ℤ)) (fail : PolyFail) → IsWithinLimits P → rest ≡ rest_of w b P.list → IsCause fail (polynomial_of (absolutes (entries (λ z. z) rest))) → IsStarved fail
 rest_starved w b P rest fail h e c = within_starved fail (polynomial_of (absolutes (rest_of w b P.list))) (rest_within w b P h) (subst (λ es. IsCause fail (polynomial_of (absolutes es))) (entries_same rest ∙ e) c)
-
-pub err_starved : {X : Type 0} (P : PolyFail → Type 0) → ((fail : PolyFail) → P fail → IsStarved fail) → (r : Result X PolyFail) → IfErr r P → IfErr r IsStarved
-err_starved P f (Ok x) h = tt
-err_starved P f (Err fail) h = f fail h
 
 -- ---- the two sides
 pub free_rest : (w : ℕ) (b : Bool) (P : WholePolynomial) → FreeOf w (polynomial_of (rest_of w b P.list))

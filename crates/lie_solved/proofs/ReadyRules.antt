@@ -1,6 +1,6 @@
 -- The rules of a solved form: high leads, positive factors, and right sides of low orders.
-use Rattle.std.specs.Prelude.{◌≡◌, ℕ, suc, ◌+◌, ◌<◌, ◌≤◌, ◌⊎◌, Bool, List, [], ◌∷◌, length, pos, negsuc}
-use Rattle.std.proofs.Common.{sym, subst, arith, inl, inr, lt-ltb}
+use Rattle.std.specs.Prelude.{◌≡◌, ℕ, suc, ◌+◌, ◌<◌, ◌≤◌, ◌⊎◌, Bool, List, [], ◌∷◌, length, pos, negsuc, unsigned_abs}
+use Rattle.std.proofs.Common.{sym, ap, subst, ◌∙◌, arith, inl, inr, lt-ltb}
 use Rattle.std.proofs.lemmas.List.{length-take-le}
 use Rattle.std.specs.List.{AllByRecursion as Every}
 use Rattle.std.proofs.lemmas.List.Elements.{All-from_recursion}
@@ -13,13 +13,14 @@ use Rattle.lie_geometry.specs.Coordinates.{Space, number, coordinates_up_to, ord
 use Rattle.lie_geometry.specs.SolvedEquations.{SolvedEquation, difference}
 use Rattle.lie_geometry.proofs.Numbers.{coordinate-number}
 use Rattle.lie_geometry.proofs.NumberOrder.{order_below}
-use Rattle.lie_gram.specs.Meaning.{EquationRead}
+use Rattle.lie_system.specs.Systems.{EquationRead}
 use Rattle.lie_jet.specs.Jets.{coordinate_of, IsJet}
 use Rattle.lie_solved.specs.declared.solved.LeadRule.{LeadRule}
 use Rattle.lie_solved.specs.SolvedForms.{solved_equation, solved_equations, IsSolvedBy, AreSolvedBy}
-use Rattle.lie_solved.specs.Equations.{IsWritten, AreWritten, AreRules, HaveJets}
+use Rattle.lie_system.specs.Written.{IsWritten, AreWritten}
+use Rattle.lie_solved.specs.Equations.{AreRules, HaveJets}
 use Rattle.lie_solved.specs.Refusals.{HasNoLead}
-use Rattle.lie_solved.specs.SolvedRules.{AreSolvedRules}
+use Rattle.lie_solved.specs.SolvedRules.{AreSolvedRules, IsPositiveNumber}
 use Rattle.lie_solved.proofs.RuleSteps.{form_of_rules}
 
 module _ (S : Space) where
@@ -29,11 +30,14 @@ module _ (S : Space) where
   high_leads (e ∷ es) [] h = absurd h
   high_leads (e ∷ es) (r ∷ rs) h = (h.0.derivative, high_leads es rs h.1)
 
-  positive_factors : (es : List EquationRead) (rules : List LeadRule) → AreSolvedBy S es (solved_equations S rules) → Every (λ (r : LeadRule). (n : ℕ) × (r.c ≡ pos (suc n))) rules
+  positive_factors : (es : List EquationRead) (rules : List LeadRule) → AreSolvedBy S es (solved_equations S rules) → Every (λ (r : LeadRule). IsPositiveNumber r.c) rules
   positive_factors [] [] h = tt
   positive_factors [] (r ∷ rs) h = absurd h
   positive_factors (e ∷ es) [] h = absurd h
-  positive_factors (e ∷ es) (r ∷ rs) h = (h.0.positive, positive_factors es rs h.1)
+  positive_factors (e ∷ es) (r ∷ rs) h = (positive h.0.positive.0 h.0.positive.1, positive_factors es rs h.1)
+    where
+      positive : (n : ℕ) → r.c ≡ pos (suc n) → IsPositiveNumber r.c
+      positive n is = (is ∙ ap (λ z. pos (unsigned_abs z)) (sym is), subst (λ z. 1 ≤ unsigned_abs z) (sym is) (let some : 1 ≤ suc n = omega arith in some))
 
   -- ---- right sides
   pub jet_low : (r : LeadRule) → IsJet S 6 r.lead → number S (coordinate_of S r.lead) < coordinates_up_to S 6

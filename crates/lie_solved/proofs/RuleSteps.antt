@@ -15,7 +15,7 @@ use Rattle.lie_geometry.specs.Coordinates.{Space, number}
 use Rattle.lie_geometry.specs.SolvedEquations.{SolvedEquation, is_lead}
 use Rattle.lie_jet.specs.Jets.{coordinate_of, IsJet}
 use Rattle.lie_jet.specs.declared.jet.Jet.{Jet}
-use Rattle.lie_gram.specs.Meaning.{EquationRead}
+use Rattle.lie_system.specs.Systems.{EquationRead}
 use Rattle.lie_solved.specs.declared.solved.LeadRule.{LeadRule}
 use Rattle.lie_solved.specs.declared.solved.NotKind.TheVariants.{NoDerivative, LeadNotLinear, LeadRepeated, LeadInside}
 use Rattle.lie_solved.specs.declared.rule.RuleFail.{RuleFail}
@@ -23,20 +23,21 @@ use Rattle.lie_solved.specs.declared.rule.RuleFail.TheVariants.{Not, NoMemory}
 use Rattle.lie_solved.specs.Leads.{IsLinearIn}
 use Rattle.lie_solved.specs.SolvedForms.{solved_equation, solved_equations, IsSolvedBy, AreSolvedBy, HaveDistinctLeads, IsSolvedForm}
 use Rattle.lie_solved.specs.Refusals.{ArePassed, IsReached, HasLeadNotLinear, HasNoLead, IsFirstInside, IsRefusal}
-use Rattle.lie_solved.specs.Equations.{IsWritten, IsRule, AreRules, HasLead, IsLinearWith, turned, rest_of, is_plain, variables_in, variables_of}
+use Rattle.lie_system.specs.Written.{IsWritten}
+use Rattle.lie_solved.specs.Equations.{IsRule, AreRules, HasLead, IsLinearWith, turned, rest_of, is_plain, variables_in, variables_of}
 use Rattle.lie_solved.specs.Causes.{IsRuleCause, failed_at}
 use Rattle.lie_solved.proofs.Variables.{in_every, every_in, variables_in_more, variables_of_more}
 use Rattle.lie_solved.proofs.OtherTerms.{free_rest, sides}
-use Rattle.lie_ring.proofs.Fronts.{every-append}
+use Rattle.lie_math.proofs.EveryElement.{every-append}
 
 -- ---- one equation
 -- a number that is not 0 is positive without its sign
-positive_of : (c : ℤ) → ¬ (c ≡ pos 0) → (n : ℕ) × (pos (unsigned_abs c) ≡ pos (suc n))
+pub positive_of : (c : ℤ) → ¬ (c ≡ pos 0) → (n : ℕ) × (pos (unsigned_abs c) ≡ pos (suc n))
 positive_of (pos zero) n = absurd (n refl)
 positive_of (pos (suc k)) n = (k, refl)
 positive_of (negsuc k) n = (k, refl)
 
-turned_plain : (c : ℤ) → pos (unsigned_abs c) ≡ turned (not (is_plain c)) c
+pub turned_plain : (c : ℤ) → pos (unsigned_abs c) ≡ turned (not (is_plain c)) c
 turned_plain (pos n) = refl
 turned_plain (negsuc n) = refl
 
@@ -68,7 +69,7 @@ lead_at S [] i r lt is = absurd (omega arith)
 lead_at S (x ∷ rules) zero r lt is = or_left _ _ (ap (λ (y : LeadRule). eqb (number S (coordinate_of S r.lead)) (number S (coordinate_of S y.lead))) (sym is) ∙ eq-eqb (number S (coordinate_of S r.lead)) (number S (coordinate_of S r.lead)) refl)
 lead_at S (x ∷ rules) (suc i) r lt is = or_right _ _ (lead_at S rules i r (omega arith) is)
 
-not_lead_at : (rs : List SolvedEquation) (w k : ℕ) (d : SolvedEquation) → is_lead rs w ≡ false → k < length rs → ¬ ((get_or rs k d).lead ≡ w)
+pub not_lead_at : (rs : List SolvedEquation) (w k : ℕ) (d : SolvedEquation) → is_lead rs w ≡ false → k < length rs → ¬ ((get_or rs k d).lead ≡ w)
 not_lead_at [] w k d h lt e = absurd (omega arith)
 not_lead_at (r ∷ rs) w zero d h lt e = true≢false (sym (ap (eqb w) e ∙ eq-eqb w w refl) ∙ (or_parts (eqb w r.lead) (is_lead rs w) h).0)
 not_lead_at (r ∷ rs) w (suc k) d h lt e = not_lead_at rs w k d (or_parts (eqb w r.lead) (is_lead rs w) h).1 (omega arith) e
@@ -87,7 +88,7 @@ module _ {X Y : Type 0} (f : X → Y) where
   length_taken xs i lt = let a = length-map (take i xs) f in let b = length-take-le i xs (omega arith) in omega arith
 
 module _ (S : Space) where
-  solved-append : (es : List EquationRead) (rs : List SolvedEquation) (e : EquationRead) (r : SolvedEquation) → AreSolvedBy S es rs → IsSolvedBy S e r → AreSolvedBy S (es ++ e ∷ []) (rs ++ r ∷ [])
+  pub solved-append : (es : List EquationRead) (rs : List SolvedEquation) (e : EquationRead) (r : SolvedEquation) → AreSolvedBy S es rs → IsSolvedBy S e r → AreSolvedBy S (es ++ e ∷ []) (rs ++ r ∷ [])
   solved-append [] [] e r h k = (k, tt)
   solved-append [] (s ∷ rs) e r h k = absurd h
   solved-append (d ∷ es) [] e r h k = absurd h
@@ -147,11 +148,11 @@ module _ (f : ℕ → Bool) where
       ap (list_any f) (variables_of_more ts i t lt is) ∙ list_any-append f (variables_of (take i ts)) (variables_in (t.0).list)
       ∙ or_from (list_any f (variables_of (take i ts))) (list_any f (variables_in (t.0).list)) h e
 
-  none_every : (ws : List ℕ) → list_any f ws ≡ false → Every (λ w. not (f w) ≡ true) ws
+  pub none_every : (ws : List ℕ) → list_any f ws ≡ false → Every (λ w. not (f w) ≡ true) ws
   none_every [] h = tt
   none_every (w ∷ ws) h = (ap not (or_parts (f w) (list_any f ws) h).0, none_every ws (or_parts (f w) (list_any f ws) h).1)
 
-  some_not_every : (ws : List ℕ) → list_any f ws ≡ true → Every (λ w. not (f w) ≡ true) ws → ⊥
+  pub some_not_every : (ws : List ℕ) → list_any f ws ≡ true → Every (λ w. not (f w) ≡ true) ws → ⊥
   some_not_every [] h k = absurd (true≢false (sym h))
   some_not_every (w ∷ ws) h k = go (f w) h k.0 (λ e. some_not_every ws e k.1)
     where
@@ -186,7 +187,7 @@ factors_of S (e ∷ es) (r ∷ rs) h = ((λ z. let f = h.0.positive.1 in go (h.0
     go : (n : ℕ) → pos (suc n) ≡ pos zero → ⊥
     go n e = absurd (cc)
 
-form_is : (S : Space) (es : List EquationRead) (rs : List SolvedEquation) → ArePassed S es rs → Every (HasNoLead rs) rs → IsSolvedForm S es rs
+pub form_is : (S : Space) (es : List EquationRead) (rs : List SolvedEquation) → ArePassed S es rs → Every (HasNoLead rs) rs → IsSolvedForm S es rs
 form_is S es rs h none = record {
   equations = h.equations;
   solved = record {

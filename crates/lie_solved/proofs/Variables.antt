@@ -12,7 +12,7 @@ use Rattle.lie_math.proofs.Kept.{kept-terms, pairs_in, terms_in}
 use Rattle.lie_math.proofs.Variables.{kept_in, T_of_true}
 use Rattle.lie_solved.specs.Leads.{Occurs}
 use Rattle.lie_solved.specs.Equations.{variables_in, variables_of}
-use Rattle.lie_ring.proofs.Fronts.{every-append, every-front, every-back, every-weaken}
+use Rattle.lie_math.proofs.EveryElement.{every-append, every-front, every-back, every-weaken}
 
 -- ---- lists
 pub every_found : (Q : ℕ → Type 0) (ws : List ℕ) (w : ℕ) → Every Q ws → list_any (λ v. eqb v w) ws ≡ true → Q w

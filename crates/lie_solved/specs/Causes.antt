@@ -1,7 +1,7 @@
 -- Why an equation cannot be solved by itself.
 use Rattle.std.specs.Prelude.{ℕ}
 use Rattle.lie_geometry.specs.Coordinates.{Space}
-use Rattle.lie_gram.specs.Meaning.{EquationRead}
+use Rattle.lie_system.specs.Systems.{EquationRead}
 use Rattle.lie_solved.specs.declared.solved.NotKind.TheVariants.{NoDerivative, LeadNotLinear, LeadRepeated, LeadInside}
 use Rattle.lie_solved.specs.declared.rule.RuleFail.{RuleFail}
 use Rattle.lie_solved.specs.declared.rule.RuleFail.TheVariants.{Not, NoMemory}

@@ -1,36 +1,21 @@
--- Equations as files give them, and what the making of a solved form says of their terms.
-use Rattle.std.specs.Prelude.{◌≡◌, ℕ, ◌≤◌, ◌+◌, ◌&&◌, Bool, true, false, cond, ltb, leb, eqb, List, [], ◌∷◌, ◌++◌, length, ℤ, pos, negsuc, neg_ℤ, Option, Some, None, IfSome}
+-- What the making of a solved form says of the terms of equations.
+use Rattle.std.specs.Prelude.{◌≡◌, ℕ, ◌+◌, ◌&&◌, Bool, true, false, cond, ltb, leb, eqb, List, [], ◌∷◌, ◌++◌}
+use Rattle.std.specs.Prelude.{ℤ, pos, negsuc, neg_ℤ, Option, Some, None}
 use Rattle.std.specs.List.{AllByRecursion as Every, list_any}
 use Rattle.std.specs.Ordering.{is_gt}
 use Rattle.lie_math.specs.Monomial.{Monomial, exponent, single}
 use Rattle.lie_math.specs.Polynomial.{WholePolynomial, coefficient}
-use Rattle.lie_math.specs.Variables.{IsIn}
-use Rattle.lie_geometry.specs.Coordinates.{Space, Coordinate, IsCoordinate, order_of, number, coordinate, coordinates_up_to}
+use Rattle.lie_geometry.specs.Coordinates.{Space, number, coordinate}
+use Rattle.lie_geometry.specs.SolvedEquations.{is_lead}
 use Rattle.lie_ring.specs.Rankings.{degree_rank}
 use Rattle.lie_jet.specs.Jets.{coordinate_of, IsJet}
 use Rattle.lie_jet.specs.declared.jet.Jet.{Jet}
-use Rattle.lie_gram.specs.Meaning.{EquationRead}
+use Rattle.lie_system.specs.Systems.{EquationRead}
 use Rattle.lie_solved.specs.declared.solved.LeadRule.{LeadRule}
 use Rattle.lie_solved.specs.Leads.{ranked, IsDerivative, HasNoDerivative, IsLead, IsLinearIn}
 use Rattle.lie_solved.specs.SolvedForms.{solved_equation, solved_equations, IsSolvedBy}
-use Rattle.lie_solved.specs.Refusals.{ArePassed}
-
--- ---- equations of a file
--- a coordinate of an order from 1 to 6
-pub record IsLow (S : Space) (c : Coordinate) : Type 0 where
-  pub coordinate : IsCoordinate S c
-  pub some : 1 ≤ order_of c
-  pub low : order_of c ≤ 6
-
--- an equation in coordinates of orders up to 6
-pub record IsWritten (S : Space) (e : EquationRead) : Type 0 where
-  pub lead : IfSome e.lead (IsLow S)
-  pub diff : IsIn (λ w. ltb w (coordinates_up_to S 6)) e.diff
-
--- at most 16 of them
-pub record AreWritten (S : Space) (es : List EquationRead) : Type 0 where
-  pub few : length es ≤ 16
-  pub equations : Every (IsWritten S) es
+use Rattle.lie_solved.specs.declared.solved.SolveFormFail.{SolveFormFail}
+use Rattle.lie_solved.specs.Refusals.{ArePassed, IsReached, IsRefusal}
 
 -- ---- the variables of terms
 abbrev pub variables_in : List (ℕ × ℕ) → List ℕ
@@ -96,3 +81,11 @@ HaveJets S rs = Every (λ (r : LeadRule). IsJet S 6 r.lead) rs
 pub record AreRules (S : Space) (es : List EquationRead) (rs : List LeadRule) : Type 0 where
   pub passed : ArePassed S es (solved_equations S rs)
   pub jets : HaveJets S rs
+
+-- the rule solves the equation behind others, and none of these has its lead
+abbrev pub IsNextRule : Space → List LeadRule → EquationRead → LeadRule → Type 0
+IsNextRule S rs e r = IsRule S e r × (is_lead (solved_equations S rs) (solved_equation S r).lead ≡ false)
+
+-- a system is refused so where the equation e is reached as the k-th one
+abbrev pub IsRefusalAt : Space → List LeadRule → EquationRead → ℕ → SolveFormFail → Type 0
+IsRefusalAt S rs e k fail = (es : List EquationRead) → IsReached S es k (solved_equations S rs) e → IsRefusal S es fail

@@ -6,7 +6,7 @@ use Rattle.lie_math.specs.Polynomial.{WholePolynomial, coefficient}
 use Rattle.lie_math.specs.Variables.{IsIn}
 use Rattle.lie_geometry.specs.Coordinates.{Space, Coordinate, independent, jet, number, coordinate}
 use Rattle.lie_ring.specs.Rankings.{Ranked, degree_rank}
-use Rattle.lie_gram.specs.Meaning.{EquationRead}
+use Rattle.lie_system.specs.Systems.{EquationRead}
 
 -- the variable w is in a term of P
 abbrev pub Occurs : ℕ → WholePolynomial → Type 0

@@ -4,7 +4,7 @@ use Rattle.std.specs.List.{AllByRecursion as Every}
 use Rattle.lie_math.specs.Variables.{IsIn}
 use Rattle.lie_geometry.specs.Coordinates.{Space}
 use Rattle.lie_geometry.specs.SolvedEquations.{SolvedEquation, is_lead}
-use Rattle.lie_gram.specs.Meaning.{EquationRead}
+use Rattle.lie_system.specs.Systems.{EquationRead}
 use Rattle.lie_solved.specs.declared.solved.NotKind.{NotKind}
 use Rattle.lie_solved.specs.declared.solved.NotKind.TheVariants.{NoDerivative, LeadNotLinear, LeadRepeated, LeadInside}
 use Rattle.lie_solved.specs.declared.solved.SolveFormFail.{SolveFormFail}

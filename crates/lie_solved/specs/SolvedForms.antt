@@ -5,7 +5,7 @@ use Rattle.lie_math.specs.Variables.{FreeOf}
 use Rattle.lie_geometry.specs.Coordinates.{Space, number}
 use Rattle.lie_geometry.specs.SolvedEquations.{SolvedEquation, difference, IsSolved}
 use Rattle.lie_jet.specs.Jets.{coordinate_of}
-use Rattle.lie_gram.specs.Meaning.{EquationRead}
+use Rattle.lie_system.specs.Systems.{EquationRead}
 use Rattle.lie_solved.specs.declared.solved.LeadRule.{LeadRule}
 use Rattle.lie_solved.specs.Leads.{IsDerivative, IsLead}
 
@@ -16,7 +16,8 @@ solved_equation S r = record { lead = number S (coordinate_of S r.lead); factor 
 abbrev pub solved_equations : Space → List LeadRule → List SolvedEquation
 solved_equations S rules = map (solved_equation S) rules
 
--- a positive number times the lead of the equation is a polynomial without it, and the difference of both is that of the equation's sides or its negative
+-- a positive number times the lead of the equation is a polynomial without it, and the difference of both is that of the equation's sides
+-- or its negative
 pub record IsSolvedBy (S : Space) (e : EquationRead) (r : SolvedEquation) : Type 0 where
   pub lead : IsLead S e r.lead
   pub derivative : IsDerivative S r.lead

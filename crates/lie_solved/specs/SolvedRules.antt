@@ -1,5 +1,5 @@
 -- What the rules of a solved system are for the work on it.
-use Rattle.std.specs.Prelude.{◌≡◌, ℕ, suc, ◌≤◌, List, length, pos}
+use Rattle.std.specs.Prelude.{◌≡◌, ℕ, ◌≤◌, List, length, ℤ, pos, unsigned_abs}
 use Rattle.std.specs.List.{AllByRecursion as Every}
 use Rattle.lie_math.specs.Derivation.{is_below}
 use Rattle.lie_math.specs.Variables.{IsIn}
@@ -9,11 +9,16 @@ use Rattle.lie_solved.specs.declared.solved.LeadRule.{LeadRule}
 use Rattle.lie_solved.specs.Equations.{HaveJets}
 use Rattle.lie_solved.specs.SolvedForms.{solved_equations}
 
--- at most 16 rules in solved form: each lead is a derivative of an order from 1 to 6, its factor is positive, and the right side has coordinates of orders up to 6
+-- a number greater than 0
+abbrev pub IsPositiveNumber : ℤ → Type 0
+IsPositiveNumber z = (z ≡ pos (unsigned_abs z)) × (1 ≤ unsigned_abs z)
+
+-- at most 16 rules in solved form: each lead is a derivative of an order from 1 to 6, its factor is positive, and the right side has
+-- coordinates of orders up to 6
 pub record AreSolvedRules (S : Space) (rs : List LeadRule) : Type 0 where
   pub few : length rs ≤ 16
   pub solved : IsSolved (solved_equations S rs)
   pub jets : HaveJets S rs
   pub high : HaveHighLeads S (solved_equations S rs)
-  pub positive : Every (λ (r : LeadRule). (n : ℕ) × (r.c ≡ pos (suc n))) rs
+  pub positive : Every (λ (r : LeadRule). IsPositiveNumber r.c) rs
   pub rights : Every (λ (r : LeadRule). IsIn (is_below (coordinates_up_to S 6)) r.right) rs

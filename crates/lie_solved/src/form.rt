@@ -1,20 +1,22 @@
 // The solved form of a system.
-ghost use Rattle.std.specs.Prelude.{◌≡◌, ◌≤◌, IfOk, IfErr, List, length, map, false, MatchOption};
+ghost use Rattle.std.specs.Prelude.{◌≡◌, ◌≤◌, IfOk, IfErr, length, map, MatchOption};
 ghost use Rattle.std.specs.List.{AllByRecursion as Every, list_any};
 ghost use Rattle.lie_geometry.specs.SolvedEquations.{is_lead};
-ghost use Rattle.lie_gram.specs.Equations.{equation_read, system_read};
-ghost use Rattle.lie_gram.specs.Meaning.{EquationRead};
+ghost use Rattle.lie_system.specs.Equations.{equation_read};
+ghost use Rattle.lie_system.specs.KeptSystems.{system_read};
 ghost use Rattle.lie_solved.specs.Causes.{failed_at};
-ghost use Rattle.lie_solved.specs.SolvedForms.{solved_equation, solved_equations, IsSolvedForm};
-ghost use Rattle.lie_solved.specs.Refusals.{IsReached, IsRefusal, HasNoLead, IsFirstInside};
-ghost use Rattle.lie_solved.specs.Equations.{IsWritten, AreWritten, IsRule, AreRules, HaveJets, variables_in, variables_of};
-ghost use Rattle.lie_solved.specs.SolvedRules.{AreSolvedRules};
+ghost use Rattle.lie_solved.specs.SolvedForms.{solved_equations, IsSolvedForm};
+ghost use Rattle.lie_solved.specs.Refusals.{IsRefusal, HasNoLead, IsFirstInside};
+ghost use Rattle.lie_system.specs.Written.{IsWritten, AreWritten};
+ghost use Rattle.lie_solved.specs.Equations.{AreRules, HaveJets, IsNextRule, IsRefusalAt, variables_in, variables_of};
+ghost use Rattle.lie_solved.specs.Solved.{equations_of};
 
 use crate::rule::{RuleFail, rule_of};
 use crate::solved::{LeadRule, NotKind, SolveFormFail, Solved};
-use lie_gram::{Equation, System};
+use lie_bytes::NoMemory;
 use lie_jet::{Space, jet_number};
-use lie_ring::{Mono, NoMemory, Polynomial, Whole};
+use lie_ring::{Mono, Polynomial, Whole};
+use lie_system::{Equation, System};
 use std::alloc::Global;
 
 /// Whether a number is that of the lead of a rule.
@@ -50,8 +52,8 @@ fn next_rule(
 ) -> Result<LeadRule, SolveFormFail>
     requires jets { HaveJets space rules.now }
     requires written { IsWritten space (equation_read space equation.now) }
-    ensures rule { IfOk result (λ r. IsRule space (equation_read space equation.now) r × (is_lead (solved_equations space rules.now) (solved_equation space r).lead ≡ false)) }
-    ensures refusal { IfErr result (λ fail. (es : List EquationRead) → IsReached space es place (solved_equations space rules.now) (equation_read space equation.now) → IsRefusal space es fail) }
+    ensures rule { IfOk result (IsNextRule space rules.now (equation_read space equation.now)) }
+    ensures refusal { IfErr result (IsRefusalAt space rules.now (equation_read space equation.now) place) }
 {
     match rule_of(alloc, space, equation) {
         Ok(rule) => {
@@ -127,10 +129,7 @@ fn first_inside(alloc: Global, space: Space, rules: &[LeadRule]) -> Result<Optio
 
 /// The solved form of a system.
 pub fn solve_form(alloc: Global, system: System) -> Result<Solved, SolveFormFail>
-    requires { AreWritten system.space (system_read system).equations }
-    ensures form { IfOk result (λ solved. IsSolvedForm system.space (system_read system).equations (solved_equations system.space solved.rules.items)) }
-    ensures jets { IfOk result (λ solved. HaveJets system.space solved.rules.items) }
-    ensures ready { IfOk result (λ solved. AreSolvedRules solved.system.space solved.rules.items) }
+    ensures form { IfOk result (λ solved. IsSolvedForm system.space (system_read system).equations (equations_of solved)) }
     ensures system { IfOk result (λ solved. solved.system ≡ system) }
     ensures refusal { IfErr result (IsRefusal system.space (system_read system).equations) }
 {

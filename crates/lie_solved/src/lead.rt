@@ -4,14 +4,15 @@ ghost use Rattle.std.specs.List.{AllByRecursion as Every};
 ghost use Rattle.std.specs.Ordering.{is_gt};
 ghost use Rattle.lie_geometry.specs.Coordinates.{number, coordinates_up_to};
 ghost use Rattle.lie_ring.specs.Rankings.{degree_rank};
-ghost use Rattle.lie_jet.specs.Jets.{coordinate_of, IsJet};
-ghost use Rattle.lie_gram.specs.Equations.{equation_read};
+ghost use Rattle.lie_jet.specs.Jets.{coordinate_of, IsJet, IsSmall};
+ghost use Rattle.lie_system.specs.Equations.{equation_read};
 ghost use Rattle.lie_solved.specs.Leads.{ranked, HasNoDerivative};
-ghost use Rattle.lie_solved.specs.Equations.{IsLow, IsWritten, IsBest, HasLead, variables_in, variables_of};
+ghost use Rattle.lie_system.specs.Written.{IsLow, IsWritten};
+ghost use Rattle.lie_solved.specs.Equations.{IsBest, HasLead, variables_in, variables_of};
 
-use lie_gram::Equation;
 use lie_jet::{Jet, Space, jet_of};
 use lie_ring::{DegreeRank, Mono, Ranking, Whole};
+use lie_system::Equation;
 use std::cmp::Ordering;
 
 /// The order of two jets.
@@ -24,7 +25,8 @@ fn compare_jets(space: Space, left: &Jet, right: &Jet) -> Ordering
 
 /// The greater one of two jets.
 fn greater(space: Space, jet: Jet, other: Jet) -> Jet
-    ensures { result ≡ (if is_gt (degree_rank (ranked (coordinate_of space jet)) (ranked (coordinate_of space other))) then jet else other) }
+    ensures { result ≡ (if is_gt (degree_rank (ranked (coordinate_of space jet))
+        (ranked (coordinate_of space other))) then jet else other) }
 {
     if compare_jets(space, &jet, &other).is_gt() {
         jet
@@ -89,13 +91,20 @@ fn within(space: Space, jet: &Jet) -> Jet
     }
 }
 
+/// There are 1 to 4 variables of each kind: what every space tells.
+fn known_small(space: Space)
+    ensures { IsSmall space }
+{
+    let _independent = &space.p;
+}
+
 /// The lead of an equation with these terms; None exactly where it has no derivative of order 1 or more.
 pub fn lead_of(space: Space, equation: &Equation, terms: &[(Mono, Whole)]) -> Option<Jet>
     requires written { IsWritten space (equation_read space equation.now) }
     requires terms { equation.now.diff.list ≡ terms.now }
     ensures { MatchOption result (HasNoDerivative space equation.now.diff) (HasLead space (equation_read space equation.now)) }
 {
-    let _ = &space.p;
+    known_small(space);
     match greatest_of(space, terms) {
         None => None,
         Some(greatest) => match &equation.lead {

@@ -10,6 +10,3 @@ mod solved;
 
 pub use form::solve_form;
 pub use solved::{LeadRule, NotKind, SolveFormFail, Solved};
-
-#[cfg(test)]
-mod tests;

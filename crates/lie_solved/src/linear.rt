@@ -1,14 +1,15 @@
 // Polynomials that are a number times a variable, and terms without it.
-ghost use Rattle.std.specs.Prelude.{◌≡◌, ◌++◌, ◌∷◌, [], IsTrue, ◌↔◌, IfOk, IfErr, OnOk, MatchOption};
+ghost use Rattle.std.specs.Prelude.{◌≡◌, ◌++◌, ◌∷◌, [], IsTrue, ◌↔◌, IfOk, OnOk, MatchOption};
+ghost use Rattle.lie_math.specs.Limits.{IsWithinLimits};
 ghost use Rattle.lie_math.specs.Monomial.{single};
 ghost use Rattle.lie_math.specs.Polynomial.{WholePolynomial, polynomial_of};
-ghost use Rattle.lie_poly.specs.Failures.{IsStarved};
 ghost use Rattle.lie_solved.specs.Leads.{IsLinearIn};
 ghost use Rattle.lie_solved.specs.Equations.{turned, rest_of, IsLinearWith};
 
+use lie_bytes::NoMemory;
 use lie_jet::JetPoly;
 use lie_poly::Flat;
-use lie_ring::{Mono, NoMemory, PolyFail, Polynomial, Ring, Whole};
+use lie_ring::{Mono, PolyFail, Polynomial, Ring, Whole};
 use std::alloc::Global;
 
 /// Whether a monomial is a variable.
@@ -87,14 +88,22 @@ pub fn rest_of(
     terms: &[(Mono, Whole)],
     number: u32,
     negative: bool,
-) -> Result<JetPoly, PolyFail>
+) -> Result<JetPoly, NoMemory>
     requires { poly.now.list ≡ terms.now }
-    ensures value { IfOk result (λ rest. rest ≡ polynomial_of (rest_of number negative poly.now.list)) }
-    ensures memory { IfErr result IsStarved }
+    ensures { IfOk result (λ rest. rest ≡ polynomial_of (rest_of number negative poly.now.list)) }
 {
-    let _ = poly.len();
-    match terms_without(alloc, terms, number, negative) {
-        Ok(rest) => Flat::of_terms(alloc, rest.as_slice()),
-        Err(_) => Err(PolyFail::NoMemory),
+    let rest = terms_without(alloc, terms, number, negative)?;
+    known_within_limits(poly);
+    match Flat::of_terms(alloc, rest.as_slice()) {
+        Ok(sum) => Ok(sum),
+        Err(PolyFail::NoMemory) => Err(NoMemory),
+        Err(PolyFail::Past(_)) => unreachable!(),
     }
+}
+
+/// Every polynomial is within the limits: what its length tells.
+fn known_within_limits(poly: &JetPoly)
+    ensures { IsWithinLimits poly.now }
+{
+    let _length = poly.len();
 }

@@ -1,16 +1,18 @@
 // The rule of an equation.
-ghost use Rattle.std.specs.Prelude.{◌≡◌, IfOk, IfErr, pos, unsigned_abs};
-ghost use Rattle.lie_gram.specs.Equations.{equation_read};
+ghost use Rattle.std.specs.Prelude.{◌≡◌, IfOk, IfErr};
+ghost use Rattle.lie_system.specs.Equations.{equation_read};
 ghost use Rattle.lie_solved.specs.declared.rule.RuleFail.TheVariants as fails;
-ghost use Rattle.lie_solved.specs.Equations.{IsWritten, IsRule, is_plain};
+ghost use Rattle.lie_system.specs.Written.{IsWritten};
+ghost use Rattle.lie_solved.specs.Equations.{IsRule, is_plain};
 ghost use Rattle.lie_solved.specs.Causes.{IsRuleCause};
 
 use crate::lead::lead_of;
 use crate::linear::{only_coefficient, rest_of};
 use crate::solved::{LeadRule, NotKind};
-use lie_gram::Equation;
-use lie_jet::{Space, jet_number};
-use lie_ring::{NoMemory, Polynomial, Ring, Whole};
+use lie_bytes::NoMemory;
+use lie_jet::{Space, absolute_value, jet_number};
+use lie_ring::{Polynomial, Whole};
+use lie_system::Equation;
 use std::alloc::Global;
 
 /// Why there is no rule of an equation.
@@ -27,17 +29,6 @@ impl From<NoMemory> for RuleFail {
 
     fn from(_fail: NoMemory) -> RuleFail {
         RuleFail::NoMemory
-    }
-}
-
-/// The absolute value.
-fn absolute(number: Whole) -> Whole
-    ensures { result ≡ pos (unsigned_abs number) }
-{
-    if number.get() < 0 {
-        number.neg()
-    } else {
-        number
     }
 }
 
@@ -64,12 +55,10 @@ pub fn rule_of(alloc: Global, space: Space, equation: &Equation) -> Result<LeadR
         Some(c) => c,
         None => return Err(RuleFail::Not(NotKind::LeadNotLinear)),
     };
-    match rest_of(alloc, &equation.diff, terms.as_slice(), number, is_plain(c)) {
-        Ok(right) => Ok(LeadRule {
-            lead,
-            c: absolute(c),
-            right,
-        }),
-        Err(_) => Err(RuleFail::NoMemory),
-    }
+    let right = rest_of(alloc, &equation.diff, terms.as_slice(), number, is_plain(c))?;
+    Ok(LeadRule {
+        lead,
+        c: absolute_value(c),
+        right,
+    })
 }

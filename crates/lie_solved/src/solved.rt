@@ -1,10 +1,13 @@
 // Systems in solved form, and why a system has none.
 ghost use Rattle.std.specs.Prelude.{◌≡◌};
+ghost use Rattle.std.proofs.Props.{props};
 ghost use Rattle.lie_solved.specs.declared.solved.SolveFormFail.TheVariants as fails;
+ghost use Rattle.lie_solved.specs.SolvedRules.{AreSolvedRules};
 
-use lie_gram::System;
+use lie_bytes::NoMemory;
 use lie_jet::{Jet, JetPoly};
-use lie_ring::{NoMemory, Whole};
+use lie_ring::Whole;
+use lie_system::System;
 use std::alloc::AllocFailed;
 
 /// A system with its solved form.
@@ -14,6 +17,8 @@ pub struct Solved {
     pub system: System,
     /// A rule for each of its equations, in the same order.
     pub rules: Vec<LeadRule>,
+    /// What the work with them asks: their number, the orders of what they have, positive coefficients.
+    pub ghost ready: { AreSolvedRules system.space rules.items } by { Prim.hlevel props },
 }
 
 /// An equation solved for its lead: `c * lead = right`.

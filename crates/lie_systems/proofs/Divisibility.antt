@@ -1,22 +1,20 @@
 -- The content and the common monomial of triples: they divide all, each common divisor divides them, and a factor can be taken out of them.
-use Rattle.std.specs.Prelude.{◌≡◌, ℕ, ◌*◌, ◌/◌, List, [], ◌∷◌, map, ℤ, pos, negsuc, ◌*ℤ◌, neg_ℤ, unsigned_abs, int_div, suc, zero, ◌+◌, ◌<◌, ◌^◌}
-use Rattle.std.proofs.Common.{refl, ap, ap₂, ◌∙◌, arith, sym}
+use Rattle.std.specs.Prelude.{◌≡◌, ℕ, ◌*◌, ◌/◌, List, [], ◌∷◌, map, ℤ, pos, negsuc, ◌*ℤ◌, neg_ℤ, unsigned_abs, int_div}
+use Rattle.std.proofs.Common.{refl, ap, ap₂, ◌∙◌, arith}
 use Prim.Native.Nat.{◌∣◌}
 use borrow.Author.Differences.{ints}
 use Rattle.std.proofs.lemmas.Int.{unsigned_abs-mul}
 use Rattle.std.proofs.lemmas.Nat.Gcd.{dvd_refl, dvd_trans, dvd-zero}
-use Rattle.lie_math.specs.Integer.{*ℤ-idl, integer_algebra}
-use Rattle.lie_math.specs.Canonical.{middle}
-use Rattle.lie_math.specs.Evaluation.{factors}
-use Rattle.lie_math.proofs.Integer.{int_div_exact, unsigned_abs_zero}
+use Rattle.lie_math.specs.Integer.{*ℤ-idl}
 use Rattle.lie_math.specs.Monomial.{Monomial, ◌·◌}
 use Rattle.lie_systems.specs.Triples.{Triple}
 use Rattle.lie_systems.specs.Laws.{DividesMonomial, DividesMonomials, DividesNumbers, ContentIsGreatest, CommonMonomialIsGreatest}
-use Rattle.lie_systems.specs.Normalised.{content, common_divisor, common_monomial, common_factor, divided, sign}
-use Rattle.lie_systems.proofs.Divisors.{common_divisor_is, common_divisor-scaled}
+use Rattle.lie_math.specs.CommonDivisors.{common_divisor}
+use Rattle.lie_math.proofs.ExactQuotients.{number_back}
+use Rattle.lie_systems.specs.Normalised.{content, common_monomial, common_factor, divided, sign}
+use Rattle.lie_math.proofs.CommonDivisors.{common_divisor_is, common_divisor-scaled}
 use Rattle.lie_systems.proofs.Exponents.{common_first, common_second, common_factor-times, divides_common, factor_back}
 use Rattle.lie_systems.proofs.Triples.{times_triple}
-use Rattle.lie_math.specs.Limits.{FitsNumber}
 
 -- ---- they divide all
 pub all_divided : (g : ℕ) (ts : List Triple) → g ∣ content ts → DividesNumbers g ts
@@ -81,33 +79,7 @@ sign_divided (negsuc n) g = turned (n' / g)
     turned : (k : ℕ) → negsuc 0 *ℤ neg_ℤ (pos k) ≡ pos k
     turned k = omega (arith, ints)
 
-pub number_back : (s : ℤ) (g : ℕ) (x : ℤ) → s *ℤ s ≡ pos 1 → g ∣ unsigned_abs x → (s *ℤ pos g) *ℤ (s *ℤ int_div x (pos g)) ≡ x
-number_back s g x e h = middle (factors integer_algebra) s (pos g) s (int_div x (pos g)) ∙ ap₂ ◌*ℤ◌ e (int_div_exact x g h) ∙ *ℤ-idl x
-
 pub divided_back : (s : ℤ) (g : ℕ) (m : Monomial) (ts : List Triple) → s *ℤ s ≡ pos 1 → DividesNumbers g ts → DividesMonomials m ts → map (times_triple m (s *ℤ pos g)) (map (divided s g m) ts) ≡ ts
 divided_back s g m [] e h k = refl
 divided_back s g m (t ∷ ts) e h k =
     ap₂ ◌∷◌ (ap₂ (λ n x. (t.0, n, x)) (factor_back m t.1 k.0) (number_back s g t.2 e h.0)) (divided_back s g m ts e h.1 k.1)
-
--- ---- exact division
-quotient_turned : (x : ℤ) (k : ℕ) → negsuc 0 *ℤ int_div x (pos (suc k)) ≡ int_div x (negsuc k)
-quotient_turned (pos n) k = omega (arith, ints)
-quotient_turned (negsuc n) k = omega (arith, ints)
-
-turned_divisor : (k : ℕ) → negsuc 0 *ℤ pos (suc k) ≡ negsuc k
-turned_divisor k = omega (arith, ints)
-
-pub quotient_back : (x d q : ℤ) → unsigned_abs d ∣ unsigned_abs x → q ≡ int_div x d → d *ℤ q ≡ x
-quotient_back x (pos g) q h e = ap (λ z. pos g *ℤ z) e ∙ int_div_exact x g h
-quotient_back x (negsuc k) q h e = ap (λ z. negsuc k *ℤ z) e ∙ ap₂ ◌*ℤ◌ (sym (turned_divisor k)) (sym (quotient_turned x k)) ∙ number_back (negsuc 0) (suc k) x refl h
-
--- a quotient is no greater
-pub quotient_fits : (x d : ℤ) → ¬ (d ≡ pos 0) → FitsNumber x → unsigned_abs d ∣ unsigned_abs x → FitsNumber (int_div x d)
-quotient_fits x d n h v = go (unsigned_abs d) (unsigned_abs (int_div x d)) (sym (unsigned_abs-mul d (int_div x d)) ∙ ap unsigned_abs (quotient_back x d (int_div x d) v refl)) (λ e. n (unsigned_abs_zero d e))
-  where
-    go : (a b : ℕ) → a * b ≡ unsigned_abs x → ¬ (a ≡ 0) → b < 2 ^ 127
-    go zero b e n = absurd (n refl)
-    go (suc a) b e n = let k : b + a * b ≡ unsigned_abs x = more a b ∙ e in let l : unsigned_abs x < 2 ^ 127 = h in omega arith
-      where
-        more : (a b : ℕ) → b + a * b ≡ suc a * b
-        more a b = omega arith

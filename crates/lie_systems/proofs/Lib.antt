@@ -1,4 +1,3 @@
-pub mod Divisors
 pub mod Exponents
 pub mod Triples
 pub mod EquationOrder
@@ -8,3 +7,4 @@ pub mod Normalised
 pub mod Primitive
 pub mod Unique
 pub mod WorkedValues
+pub mod WorkLimits

@@ -18,7 +18,8 @@ use Rattle.lie_math.proofs.TermWise.{test_not_zero}
 use Rattle.lie_math.proofs.ZeroDivisors.{cancel_mono}
 use Rattle.lie_systems.specs.Triples.{Triple, triples, triples_in, triples_with, sum_of_triples}
 use Rattle.lie_systems.specs.Normalised.{content, common_monomial, IsFirstPositive, IsPrimitive, sign, first_sign, primitive_triples}
-use Rattle.lie_systems.proofs.Divisibility.{all_divided, all_common, content-times, common_monomial-times, sign_twice, size-sign, sign_divided, number_back, divided_back}
+use Rattle.lie_systems.proofs.Divisibility.{all_divided, all_common, content-times, common_monomial-times, sign_twice, size-sign, sign_divided, divided_back}
+use Rattle.lie_math.proofs.ExactQuotients.{number_back}
 use Rattle.lie_systems.proofs.Triples.{times_triple, times_form-sum, triples-times, sum_of_triples-triples}
 use Rattle.lie_math.proofs.Monomial.{·_idr}
 

@@ -13,9 +13,10 @@ use Rattle.lie_math.specs.LinearForm.{forms}
 use Rattle.lie_math.specs.LinearSystem.{Unknown, has}
 use Rattle.lie_math.proofs.Variables.{in-constant}
 use Rattle.lie_systems.specs.EquationOrder.{equation_cmp}
-use Rattle.lie_systems.specs.Normalised.{primitive, common_divisor, each_exponent, IsNormalised}
+use Rattle.lie_math.specs.CommonDivisors.{common_divisor}
+use Rattle.lie_systems.specs.Normalised.{primitive, each_exponent, IsNormalised}
 use Rattle.lie_systems.specs.ValidSystems.{IsOwned, IsFormOf, HasVariablesBelow, count}
-use Rattle.lie_systems.specs.WorkedValues.{TriplesOfSum, DividedEquation, DerivativeAlone, LineSystemIsValid, NextNumberIsFree, VariablesAreOfTheSpace, OrdersUpTo64AreWithin, line_equations, line_system, derivative_of_order, triple}
+use Rattle.lie_systems.specs.WorkedValues.{TriplesOfSum, DividedEquation, DerivativeAlone, LineSystemIsValid, NextNumberIsFree, VariablesAreOfTheSpace, OrdersUpTo64AreWithin, TriplesOfLineSystem, LimitsAreThese, line_equations, line_system, derivative_of_order, triple}
 use Rattle.lie_math.specs.Counts.{order}
 use Rattle.std.specs.List.{Any}
 use Rattle.lie_systems.specs.Triples.{Triple, triples}
@@ -137,3 +138,15 @@ orders_up_to_64_are_within = (λ h. none (subst (Any (λ (t : Triple). 64 < orde
     none : Any (λ (t : Triple). 64 < order t.0.counts) (triple (pos 1) [] 1 (64 ∷ []) ∷ []) → ⊥
     none (zero, t, lt, is, past) = let k : 64 < order (64 ∷ []) = subst (λ (t : Triple). 64 < order t.0.counts) (sym is) past in omega arith
     none (suc i, t, lt, is, past) = absurd (omega arith)
+
+pub triples_of_line_system : TriplesOfLineSystem
+unfolding finite.of finite.none finite.plus finite.term finite.put
+triples_of_line_system = refl
+
+pub limits_are_these : LimitsAreThese
+limits_are_these = record {
+  number = (omega arith, omega arith);
+  triples = (omega arith, omega arith);
+  unknown = (omega arith, omega arith);
+  basis = ((omega arith, omega arith), inl (omega arith), inr (omega arith));
+}

@@ -32,7 +32,9 @@ DividesMonomials m ts = Every (λ (t : Triple). DividesMonomial m t.1) ts
 
 -- the common monomial divides each monomial, and what divides each divides it
 abbrev pub CommonMonomialIsGreatest : Type 0
-CommonMonomialIsGreatest = (t : Triple) (ts : List Triple) → DividesMonomials (common_monomial (t ∷ ts)) (t ∷ ts) × ((m : Monomial) → DividesMonomials m (t ∷ ts) → DividesMonomial m (common_monomial (t ∷ ts)))
+CommonMonomialIsGreatest = (t : Triple) (ts : List Triple)
+    → DividesMonomials (common_monomial (t ∷ ts)) (t ∷ ts)
+    × ((m : Monomial) → DividesMonomials m (t ∷ ts) → DividesMonomial m (common_monomial (t ∷ ts)))
 
 -- what is left of an equation that is not empty is normalised
 abbrev pub PrimitiveIsNormalised : Type 0
@@ -44,7 +46,8 @@ PrimitiveHasSameSolutions = (F : ℕ → WholePolynomial) (E : LinearForm) → a
 
 -- two normalised forms of which multiples by terms are equal are equal
 abbrev pub NormalisedIsUnique : Type 0
-NormalisedIsUnique = (m n : Monomial) (a b : ℤ) → ¬ (a ≡ pos 0) → ¬ (b ≡ pos 0) → (N P : LinearForm) → IsNormalised N → IsNormalised P → times_form (term m a) N ≡ times_form (term n b) P → N ≡ P
+NormalisedIsUnique = (m n : Monomial) (a b : ℤ) → ¬ (a ≡ pos 0) → ¬ (b ≡ pos 0) → (N P : LinearForm) → IsNormalised N → IsNormalised P
+    → times_form (term m a) N ≡ times_form (term n b) P → N ≡ P
 
 -- a multiple by a term has the same normalised equation
 abbrev pub PrimitiveOfMultiple : Type 0

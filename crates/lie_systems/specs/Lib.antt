@@ -4,5 +4,6 @@ pub mod Leads
 pub mod Normalised
 pub mod ValidSystems
 pub mod Bulk
+pub mod Works
 pub mod Laws
 pub mod WorkedValues

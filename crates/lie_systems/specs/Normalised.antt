@@ -1,18 +1,11 @@
 -- Normalised equations: no number above 1 and no variable divides the whole equation, and its first number is positive.
-use Rattle.std.specs.Prelude.{◌≡◌, ℕ, zero, suc, ◌-◌, ◌%◌, ◌<◌, ◌⊎◌, min, cond, eqb, List, [], ◌∷◌, map, length, ℤ, pos, negsuc, ◌*ℤ◌, unsigned_abs, int_div}
+use Rattle.std.specs.Prelude.{◌≡◌, ℕ, suc, ◌-◌, ◌<◌, ◌⊎◌, min, List, [], ◌∷◌, map, length, ℤ, pos, negsuc, ◌*ℤ◌, unsigned_abs, int_div}
 use Rattle.lie_math.specs.Monomial.{Monomial, monomial_of, exponent, unit}
 use Rattle.lie_math.specs.Polynomial.{WholePolynomial, constant}
+use Rattle.lie_math.specs.CommonDivisors.{common_divisor}
 use Rattle.lie_math.specs.Counts.{Derivative}
 use Rattle.lie_math.specs.LinearForm.{LinearForm, no_form, form_term}
 use Rattle.lie_systems.specs.Triples.{Triple, triples, sum_of_triples}
-
--- ---- the greatest common divisor of two numbers, by Euclid's steps
-abbrev pub divisor_within : ℕ → ℕ → ℕ → ℕ
-divisor_within zero a b = a
-divisor_within (suc steps) a b = cond (eqb b 0) a (divisor_within steps b (a % b))
-
-unfoldable pub common_divisor : ℕ → ℕ → ℕ
-common_divisor a b = divisor_within (suc b) a b
 
 -- ---- the content: the greatest common divisor of the numbers
 abbrev pub content : List Triple → ℕ

@@ -1,4 +1,5 @@
--- Valid systems: unknowns in order, each derivative of a listed unknown by its own variables, and equations normalised, distinct and in order.
+-- Valid systems: unknowns in order, each derivative of a listed unknown by its own variables, and equations normalised, distinct and in
+-- order.
 use Rattle.std.specs.Prelude.{◌≡◌, ℕ, ◌<◌, ltb, true, List, length, get_or}
 use Rattle.std.specs.List.{AllByRecursion as Every, Contains}
 use Rattle.std.specs.List.Sorted.{IsStrictlySortedBy}

@@ -1,12 +1,14 @@
 -- Worked values. The variables with the numbers 0 and 1 are x and y.
-use Rattle.std.specs.Prelude.{◌≡◌, ℕ, List, [], ◌∷◌, ℤ, pos, negsuc}
+use Rattle.std.specs.Prelude.{◌≡◌, ℕ, ◌-◌, ◌^◌, List, [], ◌∷◌, ℤ, pos, negsuc}
 use Rattle.lie_math.specs.Monomial.{monomial_of}
 use Rattle.lie_math.specs.LinearForm.{LinearForm, unknown_form}
 use Rattle.lie_math.specs.LinearSystem.{LinearSystem}
 use Rattle.lie_systems.specs.Triples.{Triple, triples, sum_of_triples}
 use Rattle.lie_systems.specs.Normalised.{primitive}
 use Rattle.lie_systems.specs.ValidSystems.{IsValid}
-use Rattle.lie_systems.specs.Bulk.{HasHighOrder}
+use Rattle.lie_systems.specs.Bulk.{HasHighOrder, system_triple_count}
+use Rattle.lie_systems.specs.Works.{OnCoefficients, OnTerms, OnUnknowns, OnWidth, ANumber, Triples, AnUnknown, ABasis, IsMadeWithin}
+use Rattle.lie_systems.specs.Works.{IsMadePast}
 
 -- a number, the exponents of a monomial, and the unknown and the counts of a derivative
 abbrev pub triple : ℤ → List (ℕ × ℕ) → ℕ → List ℕ → Triple
@@ -29,7 +31,8 @@ DividedEquation =
 
 -- (x - 2)*f1_y is normalised to f1_y
 abbrev pub DerivativeAlone : Type 0
-DerivativeAlone = primitive (sum_of_triples (triple (pos 1) x 1 (0 ∷ 1 ∷ []) ∷ triple (negsuc 1) [] 1 (0 ∷ 1 ∷ []) ∷ [])) ≡ sum_of_triples (triple (pos 1) [] 1 (0 ∷ 1 ∷ []) ∷ [])
+DerivativeAlone = primitive (sum_of_triples (triple (pos 1) x 1 (0 ∷ 1 ∷ []) ∷ triple (negsuc 1) [] 1 (0 ∷ 1 ∷ []) ∷ []))
+    ≡ sum_of_triples (triple (pos 1) [] 1 (0 ∷ 1 ∷ []) ∷ [])
 
 -- the determining equations of y_xx = 0: f1_yy, f2_xx, f2_yy - 2*f1_xy, 2*f2_xy - f1_xx
 abbrev pub line_equations : List LinearForm
@@ -57,7 +60,9 @@ NextNumberIsFree = ¬ (IsValid 2 (record line_system { next = 2 }))
 
 -- an unknown of a third variable is not one of a valid system over two
 abbrev pub VariablesAreOfTheSpace : Type 0
-VariablesAreOfTheSpace = ¬ (IsValid 2 (record line_system { unknowns = record { number = 1; variables = 0 ∷ 1 ∷ [] } ∷ record { number = 2; variables = 0 ∷ 2 ∷ [] } ∷ [] }))
+VariablesAreOfTheSpace = ¬
+    (IsValid 2 (record line_system
+    { unknowns = record { number = 1; variables = 0 ∷ 1 ∷ [] } ∷ record { number = 2; variables = 0 ∷ 2 ∷ [] } ∷ [] }))
 
 -- the derivative of f1 by x, taken n times
 abbrev pub derivative_of_order : ℕ → LinearForm
@@ -66,3 +71,14 @@ derivative_of_order n = sum_of_triples (triple (pos 1) [] 1 (n ∷ []) ∷ [])
 -- the order 64 is within the limits, and 65 is past them
 abbrev pub OrdersUpTo64AreWithin : Type 0
 OrdersUpTo64AreWithin = ¬ (HasHighOrder (derivative_of_order 64)) × HasHighOrder (derivative_of_order 65)
+
+-- the six triples of the equations, and the two of the general forms
+abbrev pub TriplesOfLineSystem : Type 0
+TriplesOfLineSystem = system_triple_count line_system ≡ 8
+
+-- the greatest of each kind is within the limits, and the next is past them
+pub record LimitsAreThese : Type 0 where
+  pub number : IsMadeWithin (ANumber (2 ^ 127 - 1)) × IsMadePast OnCoefficients (ANumber (2 ^ 127))
+  pub triples : IsMadeWithin (Triples 1000000) × IsMadePast OnTerms (Triples 1000001)
+  pub unknown : IsMadeWithin (AnUnknown 65535) × IsMadePast OnUnknowns (AnUnknown 65536)
+  pub basis : IsMadeWithin (ABasis 256 1000) × IsMadePast OnWidth (ABasis 257 1000) × IsMadePast OnWidth (ABasis 256 1001)

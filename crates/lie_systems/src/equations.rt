@@ -3,7 +3,8 @@
 ghost use Rattle.std.specs.Prelude.{◌≡◌};
 ghost use Rattle.lie_math.specs.LinearForm.{LinearForm, IsMultipleOf};
 ghost use Rattle.lie_systems.specs.Normalised.{IsNormalised, primitive};
-ghost use Rattle.lie_systems.specs.Laws.{ContentIsGreatest, CommonMonomialIsGreatest, PrimitiveIsNormalised, PrimitiveHasSameSolutions, NormalisedIsUnique, PrimitiveOfMultiple};
+ghost use Rattle.lie_systems.specs.Laws.{ContentIsGreatest, CommonMonomialIsGreatest, PrimitiveIsNormalised, PrimitiveHasSameSolutions};
+ghost use Rattle.lie_systems.specs.Laws.{NormalisedIsUnique, PrimitiveOfMultiple};
 
 /// The content is the greatest common divisor of the numbers.
 pub fn content_is_greatest()

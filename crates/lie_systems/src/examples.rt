@@ -1,6 +1,7 @@
 //! Worked values, each a law.
 
-ghost use Rattle.lie_systems.specs.WorkedValues.{TriplesOfSum, DividedEquation, DerivativeAlone, LineSystemIsValid, NextNumberIsFree, VariablesAreOfTheSpace, OrdersUpTo64AreWithin};
+ghost use Rattle.lie_systems.specs.WorkedValues.{TriplesOfSum, DividedEquation, DerivativeAlone, LineSystemIsValid, NextNumberIsFree};
+ghost use Rattle.lie_systems.specs.WorkedValues.{VariablesAreOfTheSpace, OrdersUpTo64AreWithin, TriplesOfLineSystem, LimitsAreThese};
 
 /// `2*f1 + x*f2_x - f1` has the triples `x*f2_x` and `f1`, in this order.
 pub fn triples_of_sum()
@@ -35,4 +36,15 @@ pub fn variables_are_of_the_space()
 /// A derivative of order 64 is within the limits, and one of order 65 is past them.
 pub fn orders_up_to_64_are_within()
     ensures { OrdersUpTo64AreWithin }
+{}
+
+/// The system of `y_xx = 0` has eight triples, those of its general forms included.
+pub fn triples_of_line_system()
+    ensures { TriplesOfLineSystem }
+{}
+
+/// The number `2^127 - 1`, 1,000,000 triples, the unknown 65,535, and a basis of 256 unknowns and 1,000 columns are within the limits,
+/// and the next ones are past them.
+pub fn limits_are_these()
+    ensures { LimitsAreThese }
 {}

@@ -8,7 +8,8 @@ use Rattle.clap.specs.Words.{found_of, rows_of}
 use Rattle.clap.proofs.WalkLemmas.{first_value-rows}
 use Rattle.lie_app.specs.Words.{AnyCommand, ◌>>=◌}
 use Rattle.lie_app.specs.Interface.{named_met}
-use Rattle.lie_app.specs.declared.words.Command.TheVariants.{Determine, Check}
+use Rattle.lie_app.specs.declared.words.Command.TheVariants.{OnFile}
+use Rattle.lie_app.specs.declared.words.FileCommand.TheVariants.{Determine, Check}
 use Rattle.lie_app.proofs.words.named_met.Goals as goal
 
 no_path : (name : Text) (rows : List Row) → first_of (codes "path") rows ≡ None → named_met name rows ≡ None
@@ -26,11 +27,11 @@ no_field rows none = rw none (go (first_of (codes "path") rows))
     go None = refl
     go (Some path) = refl
 
-determine_met : (rows : List Row) (path : Text) → first_of (codes "path") rows ≡ Some path → named_met (codes "determine") rows ≡ Some (Determine path)
+determine_met : (rows : List Row) (path : Text) → first_of (codes "path") rows ≡ Some path → named_met (codes "determine") rows ≡ Some (OnFile path Determine)
 determine_met rows path found = rw found refl
 
 check_met : (rows : List Row) (path field : Text) → first_of (codes "path") rows ≡ Some path → first_of (codes "field") rows ≡ Some field
-    → named_met (codes "check") rows ≡ Some (Check path field)
+    → named_met (codes "check") rows ≡ Some (OnFile path (Check field))
 check_met rows path field found other = rw (found, other) refl
 
 pub returns-in_err-path : goal.returns-in_err-path

@@ -1,23 +1,22 @@
 -- The work on the system of a file is that of its command.
-use Rattle.lie_app.specs.Words.{in_words}
-use Rattle.lie_app.proofs.Due.{file_made}
-use Rattle.lie_app.proofs.Failures.{if_err, file_refusal}
+use Rattle.lie_app.specs.Words.{file_in_words}
+use Rattle.lie_app.proofs.Outcomes.{file_is_work, file_made, if_err}
 use Rattle.lie_app.proofs.work.text_of.Goals as goal
 
 pub returns-in-Err-clause-cause : goal.returns-in-Err-clause-cause
-returns-in-Err-clause-cause c = file_refusal (in_words (λ w. w.now) c.args.command.now) c.args.bytes.now c.in-Err.status c.in-Err.ensures.cause
+returns-in-Err-clause-cause c = file_is_work (file_in_words (λ w. w.now) c.args.command.now) c.args.bytes.now c.in-Err.none c.in-Err.ensures.cause
 
 pub returns-in-Err-clause-due : goal.returns-in-Err-clause-due
-returns-in-Err-clause-due c = λ due d. file_made (in_words (λ w. w.now) c.args.command.now) c.args.bytes.now c.in-Err.status due c.in-Err.ensures.cause d
+returns-in-Err-clause-due c = λ due d. file_made (file_in_words (λ w. w.now) c.args.command.now) c.args.bytes.now c.in-Err.none due c.in-Err.ensures.cause d
 
 pub returns-in-Determine-clause-cause : goal.returns-in-Determine-clause-cause
-returns-in-Determine-clause-cause c = rw c.in-Determine.is (if_err c.report_of.result _ _ (λ status cause. cause c.in-Determine.field-0.now c.args.bytes.now c.in-Ok.ensures.solved) c.report_of.ensures.cause)
+returns-in-Determine-clause-cause c = rw c.in-Determine.is (if_err c.report_of.result _ _ (λ none cause. cause c.args.bytes.now c.in-Ok.ensures.solved) c.report_of.ensures.cause)
 
 pub returns-in-Determine-clause-due : goal.returns-in-Determine-clause-due
-returns-in-Determine-clause-due c = rw c.in-Determine.is (λ due d. c.report_of.ensures.due c.in-Determine.field-0.now c.args.bytes.now due c.in-Ok.ensures.solved d)
+returns-in-Determine-clause-due c = rw c.in-Determine.is (λ due d. c.report_of.ensures.due c.args.bytes.now due c.in-Ok.ensures.solved d)
 
 pub returns-clause-cause : goal.returns-clause-cause
-returns-clause-cause c = rw (c.in-Check.is, ← c.as_bytes.ensures.value) (if_err c.check_of.result _ _ (λ status cause. cause c.in-Check.field-0.now c.args.bytes.now c.in-Ok.ensures.solved) c.check_of.ensures.cause)
+returns-clause-cause c = rw (c.in-Check.is, ← c.as_bytes.ensures.value) (if_err c.check_of.result _ _ (λ none cause. cause c.args.bytes.now c.in-Ok.ensures.solved) c.check_of.ensures.cause)
 
 pub returns-clause-due : goal.returns-clause-due
-returns-clause-due c = rw (c.in-Check.is, ← c.as_bytes.ensures.value) (λ due d. c.check_of.ensures.due c.in-Check.field-0.now c.args.bytes.now due c.in-Ok.ensures.solved d)
+returns-clause-due c = rw (c.in-Check.is, ← c.as_bytes.ensures.value) (λ due d. c.check_of.ensures.due c.args.bytes.now due c.in-Ok.ensures.solved d)

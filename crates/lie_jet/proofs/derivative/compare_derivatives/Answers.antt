@@ -1,7 +1,7 @@
 use Rattle.std.proofs.Common.{arith, length, ◌≡◌, ◌∙◌, ap₂}
 use Rattle.std.specs.Ordering.{nat_cmp, ordering_then}
 use Rattle.std.specs.Cmp.Lexicographic.{slice_cmp}
-use Rattle.lie_jet.proofs.DerivativeLists.{compare_is}
+use Rattle.lie_jet.proofs.DerivativeCounts.{compare_is}
 use Rattle.lie_jet.proofs.derivative.compare_derivatives.Goals as goal
 
 pub returns : goal.returns

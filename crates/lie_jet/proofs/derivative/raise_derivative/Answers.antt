@@ -1,5 +1,5 @@
 use Rattle.std.proofs.Common.{arith}
-use Rattle.lie_jet.proofs.DerivativeLists.{raised_is}
+use Rattle.lie_jet.proofs.DerivativeCounts.{raised_is}
 use Rattle.lie_jet.proofs.derivative.raise_derivative.Goals as goal
 
 pub returns : goal.returns

@@ -16,13 +16,10 @@ use Rattle.lie_jet.proofs.totals.total.Goals.{After-deref-term-items}
 use Rattle.lie_ring.proofs.Fronts.{all_taken}
 
 small : (c : After-deref-term-items) → IsSmall c.args.space
-small c =
-    let p : c.space.inside.p ≡ c.args.space.p = ap (λ (s : Space). s.p) c.space.view_is in
-    let q : c.space.inside.q ≡ c.args.space.q = ap (λ (s : Space). s.q) c.space.view_is in
-    record { some_p = omega arith; few_p = omega arith; some_q = omega arith; few_q = omega arith }
+small c = c.space_is_small.ensures
 
 listed : (c : After-deref-term-items) → c.deref-term-items.result.now ≡ c.args.p.now.list
-listed c = listed_terms c.args.p.now c.deref-term-items.result.now c.in-Ok.terms.items c.deref-term-items.ensures.value c.in-Ok.ensures
+listed c = listed_terms c.args.p.now c.deref-term-items.result.now c.in_ok-terms.terms.items c.deref-term-items.ensures.value c.in_ok-terms.ensures
 
 pub loop-term-init : goal.loop-term-init
 loop-term-init c = record {
@@ -34,15 +31,15 @@ pub push_total-requires-clause-small : goal.push_total-requires-clause-small
 push_total-requires-clause-small c = small (goal.at.push_total-requires-clause-small c).After-deref-term-items
 
 pub push_total-requires-clause-low : goal.push_total-requires-clause-low
-push_total-requires-clause-low c = (term_fine (coordinates_up_to c.args.space 11) c.args.p.now c.deref-term-items.result.now c.loop-term.term-index c.term-item.result c.requires.low (listed_terms c.args.p.now c.deref-term-items.result.now c.in-Ok.terms.items c.deref-term-items.ensures.value c.in-Ok.ensures) c.loop-term-test.true c.term-item.is).0
+push_total-requires-clause-low c = (term_fine (coordinates_up_to c.args.space 11) c.args.p.now c.deref-term-items.result.now c.loop-term.term-index c.term-item.result c.requires.low (listed_terms c.args.p.now c.deref-term-items.result.now c.in_ok-terms.terms.items c.deref-term-items.ensures.value c.in_ok-terms.ensures) c.loop-term-test.true c.term-item.is).0
 
 pub push_total-requires-clause-not_zero : goal.push_total-requires-clause-not_zero
-push_total-requires-clause-not_zero c = (term_fine (coordinates_up_to c.args.space 11) c.args.p.now c.deref-term-items.result.now c.loop-term.term-index c.term-item.result c.requires.low (listed_terms c.args.p.now c.deref-term-items.result.now c.in-Ok.terms.items c.deref-term-items.ensures.value c.in-Ok.ensures) c.loop-term-test.true c.term-item.is).1
+push_total-requires-clause-not_zero c = (term_fine (coordinates_up_to c.args.space 11) c.args.p.now c.deref-term-items.result.now c.loop-term.term-index c.term-item.result c.requires.low (listed_terms c.args.p.now c.deref-term-items.result.now c.in_ok-terms.terms.items c.deref-term-items.ensures.value c.in_ok-terms.ensures) c.loop-term-test.true c.term-item.is).1
 
 pub returns-in_err-push_total-clause-past : goal.returns-in_err-push_total-clause-past
 returns-in_err-push_total-clause-past c =
     let k = (goal.at.returns-in_err-push_total-clause-past c).After-deref-term-items in
-    let p = err_from_is_err_and c.from_residual.result c.from_residual.ensures.1 in
+    let p = err_from_is_err_and c.from_residual-in_err-push_total.result c.from_residual-in_err-push_total.ensures.1 in
     rw (p.1, p.2) (cause_covered _ _ _ (entry_covered c.args.space (small k) c.args.i c.requires.within c.args.p.now c.deref-term-items.result.now c.loop-term.term-index c.term-item.result (listed k) c.loop-term-test.true c.term-item.is) c.in_err-push_total.ensures.past)
 
 pub loop-term-preserved : goal.loop-term-preserved

@@ -2,7 +2,7 @@ use Rattle.std.proofs.Common.{arith, ◌<◌, ◌^◌, ap, ap₂, ◌∙◌}
 use Rattle.std.specs.Int.{w128}
 use Rattle.std.specs.Prelude.{pos, unsigned_abs}
 use Rattle.std.proofs.lemmas.Int.{fits_signed_from_abs, to_z_pos}
-use Rattle.lie_systems.specs.Normalised.{common_divisor}
+use Rattle.lie_math.specs.CommonDivisors.{common_divisor}
 use Rattle.lie_lin.proofs.ContentSteps.{divisor_is, divisor_fits}
 use Rattle.lie_lin.proofs.content.common_divisor.Goals as goal
 

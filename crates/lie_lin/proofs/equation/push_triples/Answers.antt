@@ -7,7 +7,7 @@ use Rattle.lie_lin.proofs.equation.push_triples.Goals as goal
 use Rattle.lie_jet.proofs.TotalParts.{entries_same}
 
 pub loop-mono-preserved : goal.loop-mono-preserved
-loop-mono-preserved c = triple_moved c.args.term.now.0 c.in-Some.mono c.in-Some.number c.loop-mono.out.items c.push.new.self.items c.loop-mono.mono-iterator.rest.items c.next.new.self.rest.items _ c.in-Ok.ensures.items c.in-Some.ensures.steps.0 c.loop-mono.invariant
+loop-mono-preserved c = triple_moved c.args.term.now.0 c.in-Some.mono c.in-Some.number c.loop-mono.out.items c.push.new.self.items c.loop-mono.mono-iterator.rest.items c.next.new.self.rest.items _ c.in_ok-push.ensures.items c.in-Some.ensures.steps.0 c.loop-mono.invariant
 
 pub returns : goal.returns
 returns c =

@@ -10,5 +10,5 @@ returns-then-len-eq0 c = sym (ap (λ es. coefficients_of c.args.terms.now.items 
 
 pub returns : goal.returns
 returns c =
-    ap coefficients_of c.in-Ok.ensures.items ∙ coefficients_of-append c.args.terms.now.items ((c.args.der.now, c.args.coefficient) ∷ [])
+    ap coefficients_of c.in_ok-push.ensures.items ∙ coefficients_of-append c.args.terms.now.items ((c.args.der.now, c.args.coefficient) ∷ [])
     ∙ ap (λ es. coefficients_of c.args.terms.now.items ++ es) (sym (unless_zero_some (derivative_of c.args.der.now) c.args.coefficient (λ e. c.if-len-eq0.false (c.len.ensures.count ∙ e))))

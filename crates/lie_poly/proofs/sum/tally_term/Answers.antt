@@ -1,7 +1,7 @@
 use Rattle.std.proofs.Common.{sym, subst, ap, ◌∙◌, ℤ, pos, true≢false}
 use Rattle.std.specs.Prelude.{unsigned_abs}
 use Rattle.lie_math.specs.Monomial.{Monomial}
-use Rattle.lie_ring.specs.Limits.{HasHighExponent}
+use Rattle.lie_math.specs.Limits.{HasHighExponent}
 use Rattle.lie_math.proofs.Limits.{term_is}
 use Rattle.lie_ring.proofs.Limits.{high_term}
 use Rattle.lie_poly.proofs.SumSteps.{tells_zero, from_empty}

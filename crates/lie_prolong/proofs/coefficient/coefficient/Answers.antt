@@ -8,8 +8,9 @@ use Rattle.lie_geometry.specs.Coordinates.{Space, number, coordinates_up_to}
 use Rattle.lie_geometry.specs.Prolongation.{coefficient_at, total_derivative}
 use Rattle.lie_ring.specs.Causes.{IsCause}
 use Rattle.lie_jet.specs.Jets.{coordinate_of}
-use Rattle.lie_prolong.specs.Lowered.{IsLowered}
-use Rattle.lie_prolong.proofs.Recursion.{lowered_before, value_read, low_coefficient, coefficient_stepped, bulk_stepped, coefficient_first}
+use Rattle.lie_jet.specs.Lowered.{IsLowered}
+use Rattle.lie_jet.proofs.LoweredJets.{lowered_before, value_read}
+use Rattle.lie_prolong.proofs.Recursion.{low_coefficient, coefficient_stepped, bulk_stepped, coefficient_first}
 use Rattle.lie_prolong.proofs.Absolutes.{component_in_z}
 use Rattle.lie_prolong.proofs.Multiples.{component_read}
 use Rattle.lie_jet.proofs.TotalSteps.{on_ok, if_err}

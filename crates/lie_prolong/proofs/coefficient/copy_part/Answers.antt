@@ -1,5 +1,5 @@
 use Rattle.lie_prolong.proofs.coefficient.copy_part.Goals as goal
 use Rattle.lie_jet.proofs.Absolutes.{within_absolute}
 
-pub returns-in-Ok-clause-fits : goal.returns-in-Ok-clause-fits
-returns-in-Ok-clause-fits c = within_absolute c.args.part.now c.len.ensures.limits
+pub returns-clause-fits : goal.returns-clause-fits
+returns-clause-fits c = within_absolute c.args.part.now c.len.ensures.limits

@@ -6,7 +6,8 @@ use Rattle.lie_math.specs.Variables.{IsIn}
 use Rattle.lie_geometry.specs.Coordinates.{coordinates_up_to}
 use Rattle.lie_ring.specs.Causes.{IsCause}
 use Rattle.lie_prolong.proofs.Absolutes.{absolute_in, absolute_on}
-use Rattle.lie_prolong.proofs.Multiples.{bulk_is, bulk_made, always}
+use Rattle.lie_prolong.proofs.Multiples.{bulk_is, bulk_made}
+use Rattle.lie_jet.proofs.TotalSteps.{always}
 use Rattle.lie_prolong.proofs.coefficient.derived.Goals as goal
 
 pub step-requires-clause-field : goal.step-requires-clause-field

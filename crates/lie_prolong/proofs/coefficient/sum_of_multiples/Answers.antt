@@ -7,7 +7,7 @@ use Rattle.lie_math.specs.VectorField.{component}
 use Rattle.lie_geometry.specs.Coordinates.{Space, coordinates_up_to, number}
 use Rattle.lie_geometry.specs.Prolongation.{total_derivative}
 use Rattle.lie_prolong.proofs.Absolutes.{component_in_z}
-use Rattle.lie_prolong.proofs.Coefficients.{z_in}
+use Rattle.lie_jet.proofs.JetsBelow.{z_in}
 use Rattle.lie_prolong.proofs.Multiples.{component_read, one_cause, sum_cause}
 use Rattle.lie_prolong.proofs.coefficient.sum_of_multiples.Goals as goal
 use Rattle.lie_prolong.proofs.coefficient.sum_of_multiples.Goals.{After-index-parts-from}

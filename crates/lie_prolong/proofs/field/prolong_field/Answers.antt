@@ -5,31 +5,33 @@ use Rattle.lie_math.specs.Polynomial.{WholePolynomial}
 use Rattle.lie_math.specs.VectorField.{component}
 use Rattle.lie_geometry.specs.Prolongation.{coefficient_at}
 use Rattle.lie_ring.specs.Causes.{IsCause}
-use Rattle.lie_jet.specs.Jets.{IsSmall}
 use Rattle.lie_jet.specs.declared.jet.Jet.{Jet}
 use Rattle.lie_prolong.specs.Bulks.{bulk_at}
-use Rattle.lie_prolong.specs.JetLists.{AreJetsUpTo}
-use Rattle.lie_prolong.proofs.JetLists.{values_counted, number_at, values_more, values_all, holds_more, holds_all, fails_first, fails_at_once}
+use Rattle.lie_jet.specs.JetLists.{AreJetsUpTo}
+use Rattle.lie_jet.proofs.JetLists.{values_counted, number_at, values_more, values_all, holds_more, holds_all, fails_first, fails_at_once}
 use Rattle.std.proofs.lemmas.Grind.{common_steps}
 use Rattle.std.proofs.lemmas.List.{map_push, take_more}
 use Rattle.lie_prolong.proofs.field.prolong_field.Goals as goal
-use Rattle.lie_prolong.proofs.field.prolong_field.Goals.{After-space, After-deref-jet-items}
+use Rattle.lie_prolong.proofs.field.prolong_field.Goals.{After-deref-jet-items}
 use Rattle.lie_ring.proofs.Fronts.{all_taken}
 
-small : (c : After-space) → IsSmall c.args.space
-small c = subst IsSmall c.space.view_is (record { some_p = omega arith; few_p = omega arith; some_q = omega arith; few_q = omega arith })
-
 jets : (c : After-deref-jet-items) → AreJetsUpTo c.args.space c.args.order c.deref-jet-items.result.now
-jets c = subst (AreJetsUpTo c.args.space c.args.order) (sym c.deref-jet-items.ensures.value) c.in-Ok.ensures
+jets c = subst (AreJetsUpTo c.args.space c.args.order) (sym c.deref-jet-items.ensures.value) c.in_ok-jets.ensures
 
-pub returns-in-Err-clause-past : goal.returns-in-Err-clause-past
-returns-in-Err-clause-past c = fails_at_once c.args.space c.args.order _ _ (small (goal.at.returns-in-Err-clause-past c).After-space) (λ _. tt)
+pub returns-in_err-jets-clause-past : goal.returns-in_err-jets-clause-past
+returns-in_err-jets-clause-past c =
+    let p = err_from_is_err_and c.from_residual.result c.from_residual.ensures.1 in
+    rw (p.1, p.2) (fails_at_once c.args.space c.args.order _ _ c.space_is_small.ensures (λ _. tt))
 
-pub returns-in-Err-absolute_field-clause-past : goal.returns-in-Err-absolute_field-clause-past
-returns-in-Err-absolute_field-clause-past c = fails_at_once c.args.space c.args.order _ _ (small (goal.at.returns-in-Err-absolute_field-clause-past c).After-space) (λ _. tt)
+pub returns-in_err-absolute-clause-past : goal.returns-in_err-absolute-clause-past
+returns-in_err-absolute-clause-past c =
+    let p = err_from_is_err_and c.from_residual-in_err-absolute.result c.from_residual-in_err-absolute.ensures.1 in
+    rw (p.1, p.2) (fails_at_once c.args.space c.args.order _ _ c.space_is_small.ensures (λ _. tt))
 
-pub returns-then-is_err-clause-past : goal.returns-then-is_err-clause-past
-returns-then-is_err-clause-past c = fails_at_once c.args.space c.args.order _ _ (small (goal.at.returns-then-is_err-clause-past c).After-space) (λ _. tt)
+pub returns-in_err-push-clause-past : goal.returns-in_err-push-clause-past
+returns-in_err-push-clause-past c =
+    let p = err_from_is_err_and c.from_residual-in_err-push.result c.from_residual-in_err-push.ensures.1 in
+    rw (p.1, p.2) (fails_at_once c.args.space c.args.order _ _ c.space_is_small.ensures (λ _. tt))
 
 pub coefficient-requires-clause-next : goal.coefficient-requires-clause-next
 coefficient-requires-clause-next c =
@@ -40,7 +42,7 @@ coefficient-requires-clause-next c =
 pub returns-in_err-next-clause-past : goal.returns-in_err-next-clause-past
 returns-in_err-next-clause-past c =
     let k = (goal.at.returns-in_err-next-clause-past c).After-deref-jet-items in
-    let p = err_from_is_err_and c.from_residual.result c.from_residual.ensures.1 in
+    let p = err_from_is_err_and c.from_residual-in_err-next.result c.from_residual-in_err-next.ensures.1 in
     rw (p.1, p.2) (fails_first c.args.space c.args.order c.deref-jet-items.result.now (jets k) (λ x. IsWithinLimits (bulk_at c.args.space (component c.args.field.now) x)) (λ x. IsCause c.in_err-next.field-0.0 (bulk_at c.args.space (component c.args.field.now) x)) c.loop-jet.jet-index _ c.loop-jet.invariant.fits c.loop-jet-test.true c.in_err-next.ensures.past)
 
 pub loop-jet-preserved : goal.loop-jet-preserved

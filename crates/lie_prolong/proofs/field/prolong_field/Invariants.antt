@@ -4,7 +4,7 @@ use Rattle.lie_math.specs.VectorField.{component}
 use Rattle.lie_geometry.specs.Coordinates.{coordinate}
 use Rattle.lie_geometry.specs.Prolongation.{coefficient_at}
 use Rattle.lie_prolong.specs.Bulks.{bulk_at}
-use Rattle.lie_prolong.specs.JetLists.{AreFirstValues}
+use Rattle.lie_jet.specs.JetLists.{AreFirstValues}
 use Rattle.lie_prolong.proofs.field.prolong_field.Given as goal
 
 abbrev pub invariant-loop-jet : goal.invariant-loop-jet

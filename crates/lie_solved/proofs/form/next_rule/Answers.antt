@@ -1,6 +1,6 @@
 use Rattle.std.proofs.Common.{sym, ap, subst, ◌∙◌}
 use Rattle.lie_geometry.specs.SolvedEquations.{is_lead}
-use Rattle.lie_gram.specs.Equations.{equation_read}
+use Rattle.lie_system.specs.Equations.{equation_read}
 use Rattle.lie_solved.specs.SolvedForms.{solved_equation, solved_equations}
 use Rattle.lie_solved.specs.Refusals.{IsRefusal}
 use Rattle.lie_solved.proofs.RuleSteps.{cause_at}

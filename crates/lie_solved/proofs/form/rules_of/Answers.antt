@@ -1,7 +1,7 @@
 use Rattle.std.proofs.Common.{◌≡◌, ◌+◌, sym, subst, map, take, false}
 use Rattle.std.proofs.lemmas.Result.{err_from_is_err_and}
 use Rattle.lie_geometry.specs.SolvedEquations.{is_lead}
-use Rattle.lie_gram.specs.Equations.{equation_read}
+use Rattle.lie_system.specs.Equations.{equation_read}
 use Rattle.lie_solved.specs.SolvedForms.{solved_equation, solved_equations}
 use Rattle.lie_solved.specs.Refusals.{IsReached}
 use Rattle.lie_solved.specs.Equations.{AreRules}

@@ -1,5 +1,5 @@
 use Rattle.std.proofs.Common.{map, take}
-use Rattle.lie_gram.specs.Equations.{equation_read}
+use Rattle.lie_system.specs.Equations.{equation_read}
 use Rattle.lie_solved.specs.Equations.{AreRules}
 use Rattle.lie_solved.proofs.form.rules_of.Given as goal
 

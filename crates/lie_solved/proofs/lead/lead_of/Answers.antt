@@ -1,16 +1,13 @@
-use Rattle.std.proofs.Common.{arith, ap, ◌≡◌}
+use Rattle.std.proofs.Common.{ap}
 use Rattle.std.specs.Prelude.{option_map}
-use Rattle.lie_geometry.specs.Coordinates.{Space}
 use Rattle.lie_jet.specs.Jets.{coordinate_of}
-use Rattle.lie_gram.specs.Equations.{equation_read}
+use Rattle.lie_system.specs.Equations.{equation_read}
 use Rattle.lie_solved.proofs.Leading.{variables_low, none_is, lead_greatest, lead_given}
 use Rattle.lie_solved.proofs.lead.lead_of.Goals as goal
 
 pub greatest_of-requires : goal.greatest_of-requires
 greatest_of-requires c =
-    let p : c.space.inside.p ≡ c.args.space.p = ap (λ (s : Space). s.p) c.space.view_is in
-    let q : c.space.inside.q ≡ c.args.space.q = ap (λ (s : Space). s.q) c.space.view_is in
-    variables_low c.args.space (equation_read c.args.space c.args.equation.now) c.requires.written (record { some_p = omega arith; few_p = omega arith; some_q = omega arith; few_q = omega arith }) c.args.terms.now c.requires.terms
+    variables_low c.args.space (equation_read c.args.space c.args.equation.now) c.requires.written c.known_small.ensures c.args.terms.now c.requires.terms
 
 pub returns-in-None : goal.returns-in-None
 returns-in-None c = none_is c.args.space c.args.equation.now.diff c.args.terms.now c.requires.terms c.in-None.ensures

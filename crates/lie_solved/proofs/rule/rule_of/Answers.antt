@@ -1,6 +1,6 @@
 use Rattle.std.proofs.Common.{sym, ap, ◌∙◌}
 use Rattle.lie_math.specs.Polynomial.{polynomial_of}
-use Rattle.lie_gram.specs.Equations.{equation_read}
+use Rattle.lie_system.specs.Equations.{equation_read}
 use Rattle.lie_solved.specs.Equations.{rest_of}
 use Rattle.lie_solved.proofs.RuleSteps.{rule_is, not_linear}
 use Rattle.lie_solved.proofs.rule.rule_of.Goals as goal
@@ -17,8 +17,8 @@ returns-in-None-only_coefficient-clause-not c =
 pub rest_of-requires : goal.rest_of-requires
 rest_of-requires c = sym (c.as_slice-3.ensures.value ∙ sym (entries_same c.in_ok-terms.terms.items) ∙ c.in_ok-terms.ensures)
 
-pub returns-in-Ok-clause-rule : goal.returns-in-Ok-clause-rule
-returns-in-Ok-clause-rule c =
-    rule_is c.args.space (equation_read c.args.space c.args.equation.now) c.in-Some.lead c.jet_number-number.result c.in-Some-only_coefficient.c c.absolute.result c.in-Ok.right c.in-Some.ensures c.jet_number-number.ensures.number
-    (c.in-Some-only_coefficient.ensures c.args.equation.now.diff (sym (c.as_slice-2.ensures.value ∙ sym (entries_same c.in_ok-terms.terms.items) ∙ c.in_ok-terms.ensures))) c.absolute.ensures
-    (c.in-Ok.ensures.value ∙ ap (λ b. polynomial_of (rest_of c.jet_number-number.result b c.args.equation.now.diff.list)) c.is_plain.ensures)
+pub returns-clause-rule : goal.returns-clause-rule
+returns-clause-rule c =
+    rule_is c.args.space (equation_read c.args.space c.args.equation.now) c.in-Some.lead c.jet_number-number.result c.in-Some-only_coefficient.c c.absolute_value.result c.in_ok-right.right c.in-Some.ensures c.jet_number-number.ensures.number
+    (c.in-Some-only_coefficient.ensures c.args.equation.now.diff (sym (c.as_slice-2.ensures.value ∙ sym (entries_same c.in_ok-terms.terms.items) ∙ c.in_ok-terms.ensures))) c.absolute_value.ensures
+    (c.in_ok-right.ensures ∙ ap (λ b. polynomial_of (rest_of c.jet_number-number.result b c.args.equation.now.diff.list)) c.is_plain.ensures)

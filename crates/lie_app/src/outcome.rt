@@ -1,0 +1,56 @@
+// How a call went, as it is told inside.
+use crate::status::Source;
+use lie_ring::PastKind;
+use lie_scan::fault::BadFile;
+use lie_solved::NotKind;
+
+/// Why a command is refused: a cause of the words, or of what they name.
+#[derive(Drop, Debug, PartialEq, Eq)]
+pub enum Refusal {
+    /// The words are no command.
+    Usage,
+    /// The file is not there.
+    Missing,
+    /// The file or the field has a fault; this is the first.
+    Bad(Source, BadFile),
+    /// The equation with this number, counted from 1, cannot be solved.
+    Not(NotKind, u32),
+    /// A step of the work passes this limit.
+    Past {
+        /// The number of the step.
+        step: u64,
+        /// The limit.
+        what: PastKind,
+    },
+}
+
+/// Why a command failed: a cause outside.
+#[derive(Clone, Copy, Debug, PartialEq, Eq)]
+pub enum Failure {
+    /// There was no memory.
+    NoMemory,
+    /// The file could not be read.
+    ReadFault,
+    /// The output could not be written.
+    WriteFault,
+}
+
+/// How a call went.
+#[derive(Drop, Debug, PartialEq, Eq)]
+pub enum Outcome {
+    /// The whole output was taken.
+    Done,
+    /// It was refused, and nothing was put.
+    Refused(Refusal),
+    /// It failed.
+    Failed(Failure),
+}
+
+/// Why the work of a command makes no text.
+#[derive(Drop, Debug, PartialEq, Eq)]
+pub enum NoText {
+    /// It is refused.
+    Refused(Refusal),
+    /// There was no memory.
+    NoMemory,
+}

@@ -1,0 +1,16 @@
+mod RightSideSteps
+mod LeadSides
+mod RightSideLists
+mod PrintedCoordinates
+mod PrintedPowers
+mod PrintedSums
+mod PrintedLines
+mod PrintedEquations
+mod PrintedSizes
+mod PrintedFiles
+mod PrintedMonomials
+mod CanonicalTerms
+mod CanonicalLeads
+mod PrintedBytes
+mod CanonicalFiles
+mod CanonicalStays

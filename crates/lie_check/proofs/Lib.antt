@@ -1,0 +1,5 @@
+mod NumberedCoefficients
+mod AppliedFields
+mod AloneSizes
+mod CheckSteps
+mod ActionLimits

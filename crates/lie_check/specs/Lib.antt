@@ -1,0 +1,4 @@
+pub mod Coefficients
+pub mod Actions
+pub mod Verdicts
+pub mod Laws

@@ -1,0 +1,7 @@
+pub mod AppliedForms
+pub mod Conditions
+pub mod Equations
+pub mod Openings
+pub mod Parts
+pub mod SymbolicBulks
+pub mod Laws

@@ -1,0 +1,20 @@
+//! The determining equations of a solved system: of all fields that meet its invariance condition.
+#![tactic(auto)]
+
+mod buckets;
+mod conditions;
+mod coordinate_forms;
+mod equations;
+pub mod laws;
+mod opening;
+mod parts;
+mod sorting;
+mod sums;
+mod symbolic_application;
+mod symbolic_reduction;
+mod unknowns;
+
+pub use opening::determining;
+
+#[cfg(test)]
+mod equations_tests;

@@ -1,0 +1,13 @@
+use Rattle.std.proofs.Common.{◌≡◌, length}
+use Rattle.lie_fieldtext.specs.FieldReading.{factors_at}
+use Rattle.lie_scan.specs.Exponents.{HasSmallExponents}
+use Rattle.lie_fieldtext.proofs.field_factors.factors_at.Given as goal
+
+abbrev pub decreases-factors : goal.decreases-factors
+decreases-factors l = length l.rest
+
+abbrev pub invariant-factors : goal.invariant-factors
+invariant-factors l = record {
+  same : factors_at l.names l.fn.mono l.text ≡ factors_at l.names l.product l.rest;
+  small : HasSmallExponents l.product;
+}

@@ -1,0 +1,5 @@
+pub mod FieldMeaning
+pub mod FieldGrammar
+pub mod FieldFaults
+pub mod FieldReading
+pub mod FieldAnswers

@@ -1,0 +1,3 @@
+pub mod DerivativeTerms
+pub mod FormLimits
+pub mod FormTotals

@@ -1,5 +1,0 @@
-use Rattle.lie_gram.proofs.RightSideLists.{printable_at}
-use Rattle.lie_gram.proofs.canonical_text.push_equations.Goals as goal
-
-pub push_equation-requires : goal.push_equation-requires
-push_equation-requires c = printable_at c.args.space c.args.equations.now c.loop-equation.equation-index c.equation-item.result c.loop-equation-test.true c.equation-item.is c.requires

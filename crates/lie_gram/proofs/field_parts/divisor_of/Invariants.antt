@@ -1,9 +1,0 @@
-use Rattle.std.proofs.Common.{◌≡◌, ◌≤◌, drop}
-use Rattle.lie_gram.specs.FieldAnswers.{content_from}
-use Rattle.lie_gram.proofs.field_parts.divisor_of.Given as goal
-
-abbrev pub invariant-loop-term : goal.invariant-loop-term
-invariant-loop-term l = record {
-  same : content_from l.number l.term-items ≡ content_from l.divisor (drop l.term-index l.term-items);
-  some : 1 ≤ l.divisor;
-}

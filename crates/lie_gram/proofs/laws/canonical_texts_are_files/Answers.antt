@@ -1,5 +1,0 @@
-use Rattle.lie_gram.proofs.CanonicalFiles.{canonical_is_file}
-use Rattle.lie_gram.proofs.laws.canonical_texts_are_files.Goals as goal
-
-pub returns : goal.returns
-returns c = canonical_is_file

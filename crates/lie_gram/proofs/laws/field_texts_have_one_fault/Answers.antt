@@ -1,5 +1,0 @@
-use Rattle.lie_gram.proofs.FieldLaws.{one_field_fault}
-use Rattle.lie_gram.proofs.laws.field_texts_have_one_fault.Goals as goal
-
-pub returns : goal.returns
-returns c = one_field_fault

@@ -1,5 +1,0 @@
-use Rattle.lie_gram.proofs.FileLaws.{file_names}
-use Rattle.lie_gram.proofs.laws.systems_name_each_variable.Goals as goal
-
-pub returns : goal.returns
-returns c = file_names

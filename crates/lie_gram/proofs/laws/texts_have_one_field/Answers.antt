@@ -1,5 +1,0 @@
-use Rattle.lie_gram.proofs.FieldLaws.{one_field}
-use Rattle.lie_gram.proofs.laws.texts_have_one_field.Goals as goal
-
-pub returns : goal.returns
-returns c = one_field

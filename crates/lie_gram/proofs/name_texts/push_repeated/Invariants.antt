@@ -1,6 +1,0 @@
-use Rattle.std.proofs.Common.{◌≡◌, ◌++◌}
-use Rattle.lie_gram.specs.Printing.{repeated}
-use Rattle.lie_gram.proofs.name_texts.push_repeated.Given as goal
-
-abbrev pub invariant-loop : goal.invariant-loop
-invariant-loop l = l.text.items ≡ l.fn.text.items ++ repeated l.counter l.piece

@@ -1,8 +1,0 @@
-use Rattle.std.proofs.Common.{◌≡◌, ◌++◌, map, take, true}
-use Rattle.std.specs.List.{flat_map}
-use Rattle.lie_gram.specs.Printing.{signed_text}
-use Rattle.lie_gram.specs.PrintedTerms.{printed}
-use Rattle.lie_gram.proofs.printing.push_further.Given as goal
-
-abbrev pub invariant-loop-term : goal.invariant-loop-term
-invariant-loop-term l = l.text.items ≡ l.fn.text.items ++ flat_map (signed_text l.space l.names true) (map printed (take l.term-index l.terms))

@@ -1,7 +1,0 @@
-use Rattle.std.proofs.Common.{take, []}
-use Rattle.lie_invar.specs.Equations.{IsNormalisedPart}
-use Rattle.lie_invar.specs.Parts.{Adds}
-use Rattle.lie_invar.proofs.equations.equations_of.Given as goal
-
-abbrev pub invariant-loop-condition : goal.invariant-loop-condition
-invariant-loop-condition l = Adds (IsNormalisedPart l.fn.space (take l.condition-index l.conditions)) [] l.equations.items

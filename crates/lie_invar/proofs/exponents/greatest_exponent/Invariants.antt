@@ -1,6 +1,0 @@
-use Rattle.std.proofs.Common.{◌≡◌, take}
-use Rattle.lie_invar.specs.Reductions.{greatest_exponent}
-use Rattle.lie_invar.proofs.exponents.greatest_exponent.Given as goal
-
-abbrev pub invariant-loop-p : goal.invariant-loop-p
-invariant-loop-p l = l.greatest ≡ greatest_exponent (take l.p-index l.polynomials) l.number

@@ -1,9 +1,0 @@
-use Rattle.std.proofs.Common.{◌≡◌, take}
-use Rattle.lie_math.specs.LinearForm.{◌+ᶠ◌}
-use Rattle.lie_jet.specs.Derivatives.{derivative_terms}
-use Rattle.lie_jet.proofs.FormBounds.{over_entries}
-use Rattle.lie_invar.proofs.AppliedForms.{times_term}
-use Rattle.lie_invar.proofs.symbolic_application.put_products.Given as goal
-
-abbrev pub invariant-loop-term : goal.invariant-loop-term
-invariant-loop-term l = l.sum ≡ l.fn.sum +ᶠ over_entries (times_term l.slope) (take l.term-index (derivative_terms l.term-items))

@@ -1,7 +1,0 @@
-use Rattle.std.proofs.Common.{◌≡◌, map}
-use Rattle.std.specs.List.{range_with_len}
-use Rattle.lie_geometry.specs.SymbolicProlongation.{unknown}
-use Rattle.lie_invar.proofs.unknowns.general.Given as goal
-
-abbrev pub invariant-loop-place : goal.invariant-loop-place
-invariant-loop-place l = l.list.items ≡ map unknown (range_with_len 0 l.place)

@@ -1,6 +1,0 @@
-use Rattle.std.proofs.Common.{◌≡◌, take}
-use Rattle.lie_jet.proofs.FormParts.{kept_sizes}
-use Rattle.lie_jet.proofs.form.SymForm.absolute.Given as goal
-
-abbrev pub invariant-loop-term : goal.invariant-loop-term
-invariant-loop-term l = l.terms.items ≡ take l.term-index (kept_sizes l.term-items)

@@ -1,8 +1,0 @@
-use Rattle.std.proofs.Common.{sym, ap, ◌∙◌}
-use Rattle.lie_math.specs.FiniteSumLaws.{list-of}
-use Rattle.lie_math.specs.LinearForm.{LinearForm, forms}
-use Rattle.lie_jet.specs.Derivatives.{derivative_terms}
-use Rattle.lie_jet.proofs.form.SymForm.terms.Goals as goal
-
-pub returns : goal.returns
-returns c = ap derivative_terms c.as_slice.ensures.value ∙ sym (list-of forms (derivative_terms c.self.inside.terms.items) c.self.invariant) ∙ ap (λ (E : LinearForm). E.list) c.self.view_is

@@ -1,6 +1,0 @@
-use Rattle.std.proofs.Common.{◌≡◌, take}
-use Rattle.lie_math.specs.Limits.{absolutes}
-use Rattle.lie_jet.proofs.sizes.absolute_polynomial.Given as goal
-
-abbrev pub invariant-loop-term : goal.invariant-loop-term
-invariant-loop-term l = l.sizes.items ≡ take l.term-index (absolutes l.term-items)

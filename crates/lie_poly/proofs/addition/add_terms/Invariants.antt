@@ -1,0 +1,13 @@
+use Rattle.std.proofs.Common.{length, ◌-◌, ◌+◌, ◌≤◌}
+use Rattle.lie_poly.proofs.Additions.{AddedSoFar}
+use Rattle.lie_poly.proofs.addition.add_terms.Given as goal
+
+abbrev pub invariant-loop-i : goal.invariant-loop-i
+invariant-loop-i g l = record {
+  left_in : l.i ≤ length l.left;
+  right_in : l.j ≤ length l.right;
+  added : AddedSoFar g.C.Ring.value l.left l.right l.i l.j l.out.items l.count;
+}
+
+abbrev pub decreases-loop-i : goal.decreases-loop-i
+decreases-loop-i g l = (length l.left - l.i) + (length l.right - l.j)

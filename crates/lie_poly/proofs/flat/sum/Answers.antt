@@ -1,0 +1,22 @@
+use Rattle.std.proofs.Common.{sym, subst, ap, ◌∙◌}
+use Rattle.lie_math.specs.Polynomial.{polynomial_of}
+use Rattle.lie_math.specs.Limits.{IsWithinLimits}
+use Rattle.lie_poly.specs.Sorted.{IsSorted}
+use Rattle.lie_poly.specs.Tallies.{sums}
+use Rattle.lie_poly.proofs.TallyLists.{zeros_sorted, zeros_sum, tallied_limits}
+use Rattle.lie_poly.proofs.flat.sum.Goals as goal
+
+pub invariant_of-result : goal.invariant_of-result
+invariant_of-result g c =
+    let r = c.in-Ok.ensures.sum in
+    subst IsSorted (sym r.1) (zeros_sorted g.C.Ring.value r.0 r.2.tallied)
+
+pub returns-in-Ok-clause-sum : goal.returns-in-Ok-clause-sum
+returns-in-Ok-clause-sum g c =
+    let r = c.in-Ok.ensures.sum in
+    ap polynomial_of r.1 ∙ zeros_sum (sums g.C.Ring.value r.0) ∙ r.2.sum
+
+pub returns-in-Ok-clause-fits : goal.returns-in-Ok-clause-fits
+returns-in-Ok-clause-fits g c =
+    let r = c.in-Ok.ensures.sum in
+    subst IsWithinLimits r.2.bulk (tallied_limits g.C.Ring.value r.0 r.2.tallied)

@@ -1,0 +1,3 @@
+pub mod PrintedVariables
+mod PrintedTexts
+pub mod PrintedLists

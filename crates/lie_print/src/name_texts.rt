@@ -1,0 +1,123 @@
+// Names of variables, coordinates and derivatives of unknowns as text.
+ghost use Rattle.std.specs.Prelude.{◌≡◌, ◌++◌, ◌∷◌, [], OnOk, take, decimal, nat_lt};
+ghost use Rattle.std.specs.List.{list_any};
+ghost use Rattle.lie_jet.specs.Derivatives.{derivative_of};
+ghost use Rattle.lie_jet.specs.Jets.{coordinate_of, IsJet};
+ghost use Rattle.lie_print.specs.Printing.{name_at, repeated, letters_from, subscript, coordinate_text, variable_text, derivative_text};
+
+use lie_jet::{Der, Jet, Space, jet_of};
+use std::alloc::{AllocError, Global};
+
+/// Appends a text.
+pub fn push_text(text: &mut Vec<u8>, more: &[u8]) -> Result<(), AllocError>
+    ensures { OnOk result (text.new.items ≡ text.old.items ++ more.now) }
+{
+    text.extend_from_slice(more)?;
+    Ok(())
+}
+
+/// Appends a number in decimal digits.
+pub fn push_number(text: &mut Vec<u8>, alloc: Global, number: u128) -> Result<(), AllocError>
+    ensures { OnOk result (text.new.items ≡ text.old.items ++ decimal number) }
+{
+    let digits = format!(in alloc; "{number}")?;
+    push_text(text, digits.as_bytes())
+}
+
+// The i-th name; empty where there is none.
+fn name_at(names: &[u8], i: usize) -> &[u8]
+    ensures { result.now ≡ name_at names.now i }
+{
+    if i < names.len() {
+        &names[i..i + 1]
+    } else {
+        &[]
+    }
+}
+
+/// Appends the i-th name, and nothing where there is none.
+pub fn push_name(text: &mut Vec<u8>, names: &[u8], i: usize) -> Result<(), AllocError>
+    ensures { OnOk result (text.new.items ≡ text.old.items ++ name_at names.now i) }
+{
+    push_text(text, name_at(names, i))
+}
+
+// Appends a text some times.
+fn push_repeated(text: &mut Vec<u8>, piece: &[u8], count: u8) -> Result<(), AllocError>
+    ensures { OnOk result (text.new.items ≡ text.old.items ++ repeated count piece.now) }
+{
+    for _ in 0..count {
+        push_text(text, piece)?;
+    }
+    Ok(())
+}
+
+// Appends the names of variables, each as often as its count.
+fn push_letters(text: &mut Vec<u8>, names: &[u8], counts: &[u8]) -> Result<(), AllocError>
+    ensures { OnOk result (text.new.items ≡ text.old.items ++ letters_from names.now 0 counts.now) }
+{
+    for (i, count) in counts.iter().enumerate() {
+        push_repeated(text, name_at(names, i), *count)?;
+    }
+    Ok(())
+}
+
+// Whether a count is not 0.
+fn is_derived(counts: &[u8]) -> bool
+    ensures { result ≡ list_any (λ c. nat_lt 0 c) counts.now }
+{
+    counts.iter().any(|count| *count > 0)
+}
+
+// Appends what stands behind a name that is derived: `_` and the letters, and nothing for the order 0.
+fn push_subscript(text: &mut Vec<u8>, names: &[u8], counts: &[u8]) -> Result<(), AllocError>
+    ensures { OnOk result (text.new.items ≡ text.old.items ++ subscript names.now counts.now) }
+{
+    if is_derived(counts) {
+        push_text(text, b"_")?;
+        push_letters(text, names, counts)?;
+    }
+    Ok(())
+}
+
+/// Appends a jet.
+pub fn push_jet(text: &mut Vec<u8>, space: Space, names: &[u8], jet: &Jet) -> Result<(), AllocError>
+    requires { IsJet space 12 jet.now }
+    ensures { OnOk result (text.new.items ≡ text.old.items ++ coordinate_text space names.now (coordinate_of space jet.now)) }
+{
+    push_name(text, names, usize::from(space.p) + usize::from(jet.dep))?;
+    push_subscript(text, names, &jet.counts[..usize::from(space.p)])
+}
+
+/// Appends the coordinate with a number.
+pub fn push_variable(
+    text: &mut Vec<u8>,
+    space: Space,
+    names: &[u8],
+    variable: u32,
+) -> Result<(), AllocError>
+    ensures { OnOk result (text.new.items ≡ text.old.items ++ variable_text space names.now variable) }
+{
+    if variable < u32::from(space.p) {
+        return push_name(text, names, variable as usize);
+    }
+    match jet_of(space, variable) {
+        Some(jet) => push_jet(text, space, names, &jet),
+        None => Ok(()),
+    }
+}
+
+/// Appends a derivative of an unknown: `f`, its number and its letters.
+pub fn push_derivative(
+    text: &mut Vec<u8>,
+    alloc: Global,
+    names: &[u8],
+    derivative: &Der,
+) -> Result<(), AllocError>
+    ensures { OnOk result (text.new.items ≡ text.old.items ++ derivative_text names.now (derivative_of derivative.now)) }
+{
+    push_text(text, b"f")?;
+    push_number(text, alloc, u128::from(derivative.unknown))?;
+    push_subscript(text, names, &derivative.counts)?;
+    Ok(())
+}

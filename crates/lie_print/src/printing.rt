@@ -1,0 +1,216 @@
+// Terms and sums as text.
+ghost use Rattle.std.specs.Prelude.{◌≡◌, ◌++◌, ◌∷◌, [], OnOk, map, true, option_map, decimal, if◌then◌else◌};
+ghost use Rattle.std.specs.List.{flat_map};
+ghost use Rattle.lie_jet.specs.Derivatives.{derivative_of};
+ghost use Rattle.lie_print.specs.PrintedTerms.{printed};
+ghost use Rattle.lie_print.specs.Printing.{power_text, star, behind, last_factor, is_shown, is_further};
+ghost use Rattle.lie_print.specs.Printing.{term_text, sign_text, signed_text, sum_text};
+
+use crate::name_texts::{push_derivative, push_number, push_text, push_variable};
+use crate::printed_term::Term;
+use lie_jet::{Der, Space};
+use lie_ring::Ring;
+use std::alloc::{AllocError, Global};
+
+// Appends a power: the variable, and `^` and the exponent where that is not 1.
+fn push_power(
+    text: &mut Vec<u8>,
+    alloc: Global,
+    space: Space,
+    names: &[u8],
+    power: (u32, u32),
+) -> Result<(), AllocError>
+    ensures { OnOk result (text.new.items ≡ text.old.items ++ power_text space names.now power) }
+{
+    push_variable(text, space, names, power.0)?;
+    if power.1 != 1 {
+        push_text(text, b"^")?;
+        push_number(text, alloc, u128::from(power.1))?;
+    }
+    Ok(())
+}
+
+// Appends a star behind what stands before, if anything does.
+fn push_star(text: &mut Vec<u8>, further: bool) -> Result<(), AllocError>
+    ensures { OnOk result (text.new.items ≡ text.old.items ++ star further) }
+{
+    if further {
+        push_text(text, b"*")?;
+    }
+    Ok(())
+}
+
+// Appends powers, each behind a star.
+fn push_further_powers(
+    text: &mut Vec<u8>,
+    alloc: Global,
+    space: Space,
+    names: &[u8],
+    powers: &[(u32, u32)],
+) -> Result<(), AllocError>
+    ensures { OnOk result (text.new.items ≡ text.old.items ++ flat_map (λ g. 42 ∷ g) (map (power_text space names.now) powers.now)) }
+{
+    for power in powers {
+        push_text(text, b"*")?;
+        push_power(text, alloc, space, names, *power)?;
+    }
+    Ok(())
+}
+
+// Appends powers behind other factors, or as the first ones.
+fn push_powers(
+    text: &mut Vec<u8>,
+    alloc: Global,
+    space: Space,
+    names: &[u8],
+    further: bool,
+    powers: &[(u32, u32)],
+) -> Result<(), AllocError>
+    ensures { OnOk result (text.new.items ≡ text.old.items ++ behind further (map (power_text space names.now) powers.now)) }
+{
+    match powers {
+        [] => Ok(()),
+        [first, rest @ ..] => {
+            push_star(text, further)?;
+            push_power(text, alloc, space, names, *first)?;
+            push_further_powers(text, alloc, space, names, rest)
+        }
+    }
+}
+
+// Whether the number of a term is shown: not where it is 1 before other factors.
+fn is_shown(size: u128, powers: &[(u32, u32)], derivative: &Option<Der>) -> bool
+    ensures { result ≡ is_shown size powers.now (option_map derivative_of derivative.now) }
+{
+    match (powers, derivative) {
+        ([], None) => true,
+        _ => size != 1,
+    }
+}
+
+// Whether a factor stands before what comes behind powers.
+fn is_further(shown: bool, powers: &[(u32, u32)]) -> bool
+    ensures { result ≡ is_further shown powers.now }
+{
+    match powers {
+        [] => shown,
+        _ => true,
+    }
+}
+
+// Appends the number of a term where it is not left out.
+fn push_shown(text: &mut Vec<u8>, alloc: Global, size: u128, shown: bool) -> Result<(), AllocError>
+    ensures { OnOk result (text.new.items ≡ text.old.items ++ (if shown then decimal size else [])) }
+{
+    if shown {
+        push_number(text, alloc, size)?;
+    }
+    Ok(())
+}
+
+// Appends a derivative of an unknown, where there is one, behind other factors or as the first.
+fn push_last(
+    text: &mut Vec<u8>,
+    alloc: Global,
+    names: &[u8],
+    further: bool,
+    derivative: &Option<Der>,
+) -> Result<(), AllocError>
+    ensures { OnOk result (text.new.items
+        ≡ text.old.items ++ behind further (last_factor names.now (option_map derivative_of derivative.now))) }
+{
+    match derivative {
+        Some(derivative) => {
+            push_star(text, further)?;
+            push_derivative(text, alloc, names, derivative)
+        }
+        None => Ok(()),
+    }
+}
+
+// Appends a term without its sign: the number, unless it is 1 before other factors, the powers and the derivative.
+fn push_term(
+    text: &mut Vec<u8>,
+    alloc: Global,
+    space: Space,
+    names: &[u8],
+    term: &Term,
+) -> Result<(), AllocError>
+    ensures { OnOk result (text.new.items ≡ text.old.items ++ term_text space names.now (printed term.now)) }
+{
+    let size = term.number.size();
+    let powers = term.monomial.pairs();
+    let shown = is_shown(size, powers, &term.derivative);
+    push_shown(text, alloc, size, shown)?;
+    push_powers(text, alloc, space, names, shown, powers)?;
+    push_last(
+        text,
+        alloc,
+        names,
+        is_further(shown, powers),
+        &term.derivative,
+    )?;
+    Ok(())
+}
+
+// Appends the sign before a term: a bare minus before the first, and one with blanks before a further term.
+fn push_sign(text: &mut Vec<u8>, further: bool, negative: bool) -> Result<(), AllocError>
+    ensures { OnOk result (text.new.items ≡ text.old.items ++ sign_text further negative) }
+{
+    match (further, negative) {
+        (false, false) => Ok(()),
+        (false, true) => push_text(text, b"-"),
+        (true, false) => push_text(text, b" + "),
+        (true, true) => push_text(text, b" - "),
+    }
+}
+
+// Appends a term with its sign.
+fn push_signed(
+    text: &mut Vec<u8>,
+    alloc: Global,
+    space: Space,
+    names: &[u8],
+    further: bool,
+    term: &Term,
+) -> Result<(), AllocError>
+    ensures { OnOk result (text.new.items ≡ text.old.items ++ signed_text space names.now further (printed term.now)) }
+{
+    push_sign(text, further, term.number.get() < 0)?;
+    push_term(text, alloc, space, names, term)
+}
+
+// Appends further terms.
+fn push_further(
+    text: &mut Vec<u8>,
+    alloc: Global,
+    space: Space,
+    names: &[u8],
+    terms: &[Term],
+) -> Result<(), AllocError>
+    ensures { OnOk result (text.new.items ≡ text.old.items ++ flat_map (signed_text space names.now true) (map printed terms.now)) }
+{
+    for term in terms {
+        push_signed(text, alloc, space, names, true, term)?;
+    }
+    Ok(())
+}
+
+/// Appends a sum of terms; that of none is 0.
+pub fn push_sum(
+    text: &mut Vec<u8>,
+    alloc: Global,
+    space: Space,
+    names: &[u8],
+    terms: &[Term],
+) -> Result<(), AllocError>
+    ensures { OnOk result (text.new.items ≡ text.old.items ++ sum_text space names.now (map printed terms.now)) }
+{
+    match terms {
+        [] => push_text(text, b"0"),
+        [first, rest @ ..] => {
+            push_signed(text, alloc, space, names, false, first)?;
+            push_further(text, alloc, space, names, rest)
+        }
+    }
+}

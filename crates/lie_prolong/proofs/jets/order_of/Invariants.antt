@@ -1,6 +1,0 @@
-use Rattle.std.proofs.Common.{◌≡◌, ◌+◌, ◌*◌, ◌≤◌, drop}
-use Rattle.lie_math.specs.Counts.{order as order_of_counts}
-use Rattle.lie_prolong.proofs.jets.order_of.Given as goal
-
-abbrev pub invariant-loop-count : goal.invariant-loop-count
-invariant-loop-count l = (l.order + order_of_counts (drop l.count-index l.count-items) ≡ order_of_counts l.count-items) × (l.order ≤ 255 * l.count-index)

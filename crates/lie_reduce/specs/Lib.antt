@@ -1,0 +1,5 @@
+pub mod Applications
+pub mod Bulks
+pub mod ReducedTerms
+pub mod Reductions
+pub mod SolvedRule

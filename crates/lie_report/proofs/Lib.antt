@@ -1,0 +1,3 @@
+-- The lemmas that the answers cite.
+pub mod Texts
+pub mod Lists

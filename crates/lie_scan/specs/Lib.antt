@@ -1,0 +1,16 @@
+pub mod Runs
+pub mod Stops
+pub mod Names
+pub mod Tokens
+pub mod Meaning
+pub mod TokenGrammar
+pub mod SumGrammar
+pub mod LineFaults
+pub mod Variables
+pub mod Turns
+pub mod Terms
+pub mod Exponents
+pub mod Answers
+pub mod Sizes
+pub mod Bad
+pub mod ReadFails

@@ -1,0 +1,52 @@
+pub mod FormTriples
+pub mod Carry
+pub mod Tidied
+pub mod Unknowns
+pub mod Derived
+pub mod PutIn
+pub mod Replaced
+pub mod Division
+pub mod FreshUnknowns
+pub mod ZeroRule
+pub mod EquationsAt
+pub mod Rests
+pub mod CountLists
+pub mod LowestRule
+pub mod SplitRule
+pub mod LowPowers
+pub mod FreshPowers
+pub mod LowParts
+pub mod AbsentRule
+pub mod RingIdentities
+pub mod SolvedForms
+pub mod SubstituteRule
+pub mod Integrals
+pub mod Denominators
+pub mod IntegrateRule
+pub mod PartCoefficients
+pub mod IsolateRule
+pub mod RaisedOrder
+pub mod LeadDerivatives
+pub mod Combining
+pub mod NormalForms
+pub mod NormalFormWork
+pub mod DescendingLists
+pub mod Searching
+pub mod Descents
+pub mod NormalFormExists
+pub mod ReducingRules
+pub mod Stepping
+pub mod NoneApplies
+pub mod IsolateNone
+pub mod DecideAlone
+pub mod DecideSolved
+pub mod DecideLater
+pub mod NextStep
+pub mod WorkedValues
+pub mod ReductionMeasure
+pub mod LowestTerms
+pub mod RuleValues
+mod BulkValues
+mod StepValues
+mod MakeValues
+mod SearchValues

@@ -1,0 +1,5 @@
+use Rattle.lie_steps.proofs.BulkValues.{bulks_of_cross}
+use Rattle.lie_steps.proofs.bulk_examples.bulks_of_cross.Goals as goal
+
+pub returns : goal.returns
+returns c = bulks_of_cross

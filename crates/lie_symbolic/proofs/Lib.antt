@@ -1,0 +1,3 @@
+pub mod SymbolicLimits
+pub mod SymbolicMultiples
+pub mod SymbolicSteps

@@ -1,0 +1,3 @@
+pub mod Entries
+pub mod LeadNumbers
+pub mod KeptEquations

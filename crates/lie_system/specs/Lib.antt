@@ -1,0 +1,5 @@
+pub mod Equations
+pub mod LeadsAlone
+pub mod Systems
+pub mod Written
+pub mod KeptSystems
