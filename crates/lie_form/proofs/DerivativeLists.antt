@@ -1,9 +1,9 @@
 -- Derivatives of unknowns as code, and lists of them with coefficients.
-use Rattle.std.specs.Prelude.{◌≡◌, ℕ, zero, suc, ◌+◌, true, false, ℤ, List, [], ◌∷◌, ◌++◌, length, take, drop, OnOk, IfErr, T, ◌≤◌, ◌<◌}
+use Rattle.std.specs.Prelude.{◌≡◌, ℕ, zero, suc, true, false, ℤ, List, [], ◌∷◌, ◌++◌, length, take, drop, OnOk, IfErr, T, ◌≤◌, ◌<◌}
 use Rattle.std.specs.List.{AllByRecursion as Every}
 use Rattle.std.proofs.Common.{Result, Ok, Err, refl, sym, ap, ap₂, subst, ◌∙◌, arith, get_or, Equal, Greater, Ordering, Less, is_lt}
 use Rattle.std.specs.FinMap.Entries.{by_order}
-use Rattle.lie_math.specs.Counts.{order, Derivative, derivative_cmp}
+use Rattle.lie_math.specs.Counts.{Derivative, derivative_cmp}
 use Rattle.lie_math.specs.LinearForm.{forms, ◌+ᶠ◌, form_term}
 use Rattle.lie_math.specs.FiniteSum as finite
 use Rattle.lie_math.specs.FiniteSumLaws.{plus_comm, value-of, list-of, same_list}

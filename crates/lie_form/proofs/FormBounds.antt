@@ -1,24 +1,22 @@
 -- Bounds of forms: whatever bounds a form, derivative by derivative, is past a limit where the form is.
-use Rattle.std.specs.Prelude.{◌≡◌, not, T, ℕ, zero, suc, ◌≤◌, Bool, true, false, cond, eqb, List, [], ◌∷◌, take, map, ℤ}
+use Rattle.std.specs.Prelude.{◌≡◌, ℕ, zero, suc, ◌≤◌, Bool, true, false, cond, eqb, List, [], ◌∷◌, take}
 use Rattle.std.specs.Ordering.{eq_by_cmp}
-use Rattle.std.proofs.Common.{refl, sym, ap, ap₂, subst, subst₂, is_lt, ◌∙◌, arith, eqb-true, eq-eqb, true≢false}
-use Rattle.lie_math.specs.Canonical.{both, first, second}
+use Rattle.std.proofs.Common.{refl, sym, ap, ap₂, subst, subst₂, ◌∙◌, arith, eqb-true, eq-eqb, true≢false}
 use Rattle.lie_math.specs.Counts.{Derivative, derivative_cmp}
 use Rattle.lie_math.specs.Derivation.{numbers_below}
 use Rattle.lie_math.specs.FiniteSum as finite
-use Rattle.lie_math.specs.FiniteSum.{list_is_empty, IsCanonical}
+use Rattle.lie_math.specs.FiniteSum.{IsCanonical}
 use Rattle.lie_math.specs.FiniteSumLaws as finite_laws
 use Rattle.lie_math.specs.FiniteSumLaws.{value-plus, value-none, value-term}
-use Rattle.lie_math.specs.Limits.{absolute, absolutes}
+use Rattle.lie_math.specs.Limits.{absolute}
 use Rattle.lie_math.specs.LinearForm.{forms, LinearForm, no_form, ◌+ᶠ◌, form_term, each_coefficient}
-use Rattle.lie_math.specs.Monomial.{Monomial}
-use Rattle.lie_math.specs.Polynomial.{WholePolynomial, terms, coefficient, 0ᴾ}
-use Rattle.lie_math.specs.SortedSum.{value_at, below_all, sum_of_entries}
-use Rattle.lie_math.proofs.Limits.{covered_first, covered_second, nonneg_sum, canonical_absolutes}
-use Rattle.lie_math.proofs.CanonicalLists.{canonical_value, canonical_tail, canonical_below, canonical_cons, of-cons}
+use Rattle.lie_math.specs.Polynomial.{WholePolynomial, 0ᴾ}
+use Rattle.lie_math.specs.SortedSum.{value_at, sum_of_entries}
+use Rattle.lie_math.proofs.Limits.{covered_first, covered_second, nonneg_sum}
 use Rattle.lie_ring.specs.declared.failures.PolyFail.{PolyFail}
 use Rattle.lie_poly.proofs.SumSteps.{cause_covered}
 use Rattle.lie_geometry.specs.SymbolicProlongation.{forms_over}
+use Rattle.lie_geometry.proofs.AbsoluteForms.{entry_absolutes, list_absolutes}
 use Rattle.lie_form.specs.FormLimits.{IsFormCoefficientCause}
 use Rattle.lie_jet.proofs.Absolutes.{absolute_twice}
 use Rattle.lie_jet.proofs.PolynomialBounds.{value_at-each, absolute_none, IsBound, sum_bound, absolute_bound, covered_absolute, none_bound, plain_bound, trans_bound}
@@ -100,50 +98,30 @@ module _ (φ : Derivative → WholePolynomial → LinearForm) where
     front_bound (e ∷ es) (suc k) = form_sum (φ e.0 e.1) (over_entries (take k es)) (φ e.0 e.1) (over_entries es) (plain e.0 e.1) (front_bound es k)
 
 -- ---- the form with the absolute values of its numbers
-abbrev pub sizes_of : List (Derivative × WholePolynomial) → List (Derivative × WholePolynomial)
-sizes_of es = map (λ (e : Derivative × WholePolynomial). (e.0, absolute e.1)) es
+-- its list has the entries with the absolute values, which are those of a form
+module _ (es : List (Derivative × WholePolynomial)) (h : IsCanonical forms es) where
+  listed : (each_coefficient absolute (finite.of forms es)).list ≡ entry_absolutes es
+  listed = list_absolutes (finite.of forms es) ∙ ap entry_absolutes (finite_laws.list-of forms es h)
 
-same_none : (a : WholePolynomial) → finite.is_none terms (absolute a) ≡ finite.is_none terms a
-unfolding absolute
-same_none a = ap list_is_empty (finite_laws.list-of terms (absolutes a.list) (canonical_absolutes a.list a.canonical)) ∙ by a.list
-  where
-    by : (es : List (Monomial × ℤ)) → list_is_empty (absolutes es) ≡ list_is_empty es
-    by [] = refl
-    by (e ∷ es) = refl
+  pub canonical_entries : IsCanonical forms (entry_absolutes es)
+  canonical_entries = subst (IsCanonical forms) listed (each_coefficient absolute (finite.of forms es)).canonical
 
-below_sizes : (d : Derivative) (es : List (Derivative × WholePolynomial)) → T (below_all derivative_cmp forms.values d es) → T (below_all derivative_cmp forms.values d (sizes_of es))
-below_sizes d [] h = tt
-below_sizes d (e ∷ es) h = both _ (below_all derivative_cmp forms.values d (sizes_of es)) (first _ (below_all derivative_cmp forms.values d es) h) (below_sizes d es (second (is_lt (derivative_cmp d e.0)) _ h))
+  pub absolutes_form : finite.of forms (entry_absolutes es) ≡ each_coefficient absolute (finite.of forms es)
+  absolutes_form = ap (finite.of forms) (sym listed) ∙ finite_laws.of_list forms (each_coefficient absolute (finite.of forms es))
 
-pub canonical_sizes : (es : List (Derivative × WholePolynomial)) → IsCanonical forms es → IsCanonical forms (sizes_of es)
-canonical_sizes [] h = tt
-canonical_sizes (e ∷ es) h =
-    canonical_cons forms (e.0, absolute e.1) (sizes_of es) (subst (λ b. T (not b)) (sym (same_none e.1)) (canonical_value forms e es h)) (below_sizes e.0 es (canonical_below forms e es h)) (canonical_sizes es (canonical_tail forms e es h))
+pub at_absolute : (E : LinearForm) (d : Derivative) → at (each_coefficient absolute E) d ≡ absolute (at E d)
+at_absolute E d = ap (value_at derivative_cmp forms.values d) (list_absolutes E) ∙ value_at-each forms absolute absolute_none d E.list E.canonical
 
-sizes_sum : (es : List (Derivative × WholePolynomial)) → sum_of_entries (finite_laws.adder forms) (λ d a. form_term d (absolute a)) es ≡ finite.of forms (sizes_of es)
-unfolding finite.none finite.term
-sizes_sum [] = refl
-sizes_sum (e ∷ es) = ap (λ E. form_term e.0 (absolute e.1) +ᶠ E) (sizes_sum es) ∙ sym (of-cons forms (e.0, absolute e.1) (sizes_of es))
+entries_again : (es : List (Derivative × WholePolynomial)) → entry_absolutes (entry_absolutes es) ≡ entry_absolutes es
+entries_again [] = refl
+entries_again (e ∷ es) = ap₂ (λ (a : WholePolynomial) xs. (e.0, a) ∷ xs) (absolute_twice e.1) (entries_again es)
 
-pub list_sizes : (E : LinearForm) → (each_coefficient absolute E).list ≡ sizes_of E.list
-list_sizes E = ap (λ (G : LinearForm). G.list) (sizes_sum E.list) ∙ finite_laws.list-of forms (sizes_of E.list) (canonical_sizes E.list E.canonical)
+pub form_absolute_twice : (E : LinearForm) → each_coefficient absolute (each_coefficient absolute E) ≡ each_coefficient absolute E
+form_absolute_twice E = finite_laws.same_list forms _ _ (list_absolutes (each_coefficient absolute E) ∙ ap entry_absolutes (list_absolutes E) ∙ entries_again E.list ∙ sym (list_absolutes E))
 
-pub sizes_form : (es : List (Derivative × WholePolynomial)) → IsCanonical forms es → finite.of forms (sizes_of es) ≡ each_coefficient absolute (finite.of forms es)
-sizes_form es h = sym (sizes_sum es) ∙ ap (sum_of_entries (finite_laws.adder forms) (λ d a. form_term d (absolute a))) (sym (finite_laws.list-of forms es h))
-
-pub at_sizes : (E : LinearForm) (d : Derivative) → at (each_coefficient absolute E) d ≡ absolute (at E d)
-at_sizes E d = ap (value_at derivative_cmp forms.values d) (list_sizes E) ∙ value_at-each forms absolute absolute_none d E.list E.canonical
-
-sizes_again : (es : List (Derivative × WholePolynomial)) → sizes_of (sizes_of es) ≡ sizes_of es
-sizes_again [] = refl
-sizes_again (e ∷ es) = ap₂ (λ (a : WholePolynomial) xs. (e.0, a) ∷ xs) (absolute_twice e.1) (sizes_again es)
-
-pub sizes_twice : (E : LinearForm) → each_coefficient absolute (each_coefficient absolute E) ≡ each_coefficient absolute E
-sizes_twice E = finite_laws.same_list forms _ _ (list_sizes (each_coefficient absolute E) ∙ ap sizes_of (list_sizes E) ∙ sizes_again E.list ∙ sym (list_sizes E))
-
-pub form_sizes : (E : LinearForm) → IsFormBound E (each_coefficient absolute E)
-form_sizes E = record { each = λ d. subst (IsBound (at E d)) (sym (at_sizes E d)) (absolute_bound (at E d)) }
+pub form_absolute : (E : LinearForm) → IsFormBound E (each_coefficient absolute E)
+form_absolute E = record { each = λ d. subst (IsBound (at E d)) (sym (at_absolute E d)) (absolute_bound (at E d)) }
 
 -- what bounds a form bounds its absolute values
-pub sizes_bound : (E B : LinearForm) → IsFormBound E B → IsFormBound (each_coefficient absolute E) B
-sizes_bound E B h = record { each = λ d. subst (λ p. IsBound p (at B d)) (sym (at_sizes E d)) (covered_absolute (at E d) (at B d) (h.each d)) }
+pub form_absolute_bound : (E B : LinearForm) → IsFormBound E B → IsFormBound (each_coefficient absolute E) B
+form_absolute_bound E B h = record { each = λ d. subst (λ p. IsBound p (at B d)) (sym (at_absolute E d)) (covered_absolute (at E d) (at B d) (h.each d)) }

@@ -15,23 +15,24 @@ use Rattle.lie_jet.specs.Derivatives.{derivative_of}
 use Rattle.lie_form.specs.DerivativeTerms.{derivative_terms}
 use Rattle.lie_jet.specs.declared.derivative.Der.{Der}
 use Rattle.lie_jet.proofs.ListPlaces.{take_map}
-use Rattle.lie_form.proofs.FormBounds.{sizes_of, canonical_sizes, sizes_form}
+use Rattle.lie_geometry.proofs.AbsoluteForms.{entry_absolutes}
+use Rattle.lie_form.proofs.FormBounds.{canonical_entries, absolutes_form}
 use Rattle.lie_math.proofs.EveryElement.{every-append}
 use Rattle.lie_form.proofs.FormCauses.{length-with, IsLowEntry, triple_at_place, within_limits}
 
 -- ---- absolute values
-abbrev pub kept_sizes : List (Der × WholePolynomial) → List (Der × WholePolynomial)
-kept_sizes ts = map (λ (t : Der × WholePolynomial). (t.0, absolute t.1)) ts
+abbrev pub kept_absolutes : List (Der × WholePolynomial) → List (Der × WholePolynomial)
+kept_absolutes ts = map (λ (t : Der × WholePolynomial). (t.0, absolute t.1)) ts
 
-kept_are : (ts : List (Der × WholePolynomial)) → derivative_terms (kept_sizes ts) ≡ sizes_of (derivative_terms ts)
+kept_are : (ts : List (Der × WholePolynomial)) → derivative_terms (kept_absolutes ts) ≡ entry_absolutes (derivative_terms ts)
 kept_are [] = refl
 kept_are (t ∷ ts) = ap (λ es. (derivative_of t.0, absolute t.1) ∷ es) (kept_are ts)
 
-pub sizes_canonical : (ts us : List (Der × WholePolynomial)) → us ≡ kept_sizes ts → IsCanonical forms (derivative_terms ts) → IsCanonical forms (derivative_terms us)
-sizes_canonical ts us e h = subst (IsCanonical forms) (sym (ap derivative_terms e ∙ kept_are ts)) (canonical_sizes (derivative_terms ts) h)
+pub absolutes_canonical : (ts us : List (Der × WholePolynomial)) → us ≡ kept_absolutes ts → IsCanonical forms (derivative_terms ts) → IsCanonical forms (derivative_terms us)
+absolutes_canonical ts us e h = subst (IsCanonical forms) (sym (ap derivative_terms e ∙ kept_are ts)) (canonical_entries (derivative_terms ts) h)
 
-pub sizes_are : (ts us : List (Der × WholePolynomial)) → us ≡ kept_sizes ts → IsCanonical forms (derivative_terms ts) → finite.of forms (derivative_terms us) ≡ each_coefficient absolute (finite.of forms (derivative_terms ts))
-sizes_are ts us e h = ap (finite.of forms) (ap derivative_terms e ∙ kept_are ts) ∙ sizes_form (derivative_terms ts) h
+pub absolutes_are : (ts us : List (Der × WholePolynomial)) → us ≡ kept_absolutes ts → IsCanonical forms (derivative_terms ts) → finite.of forms (derivative_terms us) ≡ each_coefficient absolute (finite.of forms (derivative_terms ts))
+absolutes_are ts us e h = ap (finite.of forms) (ap derivative_terms e ∙ kept_are ts) ∙ absolutes_form (derivative_terms ts) h
 
 -- ---- counting
 pub triples_in-append : (es fs : List (Derivative × WholePolynomial)) → triples_in (es ++ fs) ≡ triples_in es ++ triples_in fs

@@ -34,7 +34,8 @@ use Rattle.lie_jet.specs.Jets.{IsSmall}
 use Rattle.lie_jet.specs.declared.derivative.Der.{Der}
 use Rattle.lie_jet.proofs.ListPlaces.{take_map, get_map}
 use Rattle.lie_jet.proofs.PolynomialBounds.{coefficient_absolute, absolute_none, IsBound, sum_bound, plain_bound, covered_absolute, absolute_bound}
-use Rattle.lie_form.proofs.FormBounds.{at, IsFormBound, IsPlain, cause_bound, form_trans, form_plain, form_sum, form_one, form_first, form_second, over_bound, fewer_bound, over_entries, entries_bound, front_bound, sizes_of, list_sizes, at_sizes, sizes_twice, form_sizes, sizes_bound}
+use Rattle.lie_geometry.proofs.AbsoluteForms.{entry_absolutes, list_absolutes}
+use Rattle.lie_form.proofs.FormBounds.{at, IsFormBound, IsPlain, cause_bound, form_trans, form_plain, form_sum, form_one, form_first, form_second, over_bound, fewer_bound, over_entries, entries_bound, front_bound, at_absolute, form_absolute_twice, form_absolute, form_absolute_bound}
 use Rattle.lie_jet.proofs.TotalBounds.{absolute_variable, total_bound}
 use Rattle.lie_form.proofs.FormTotalBounds.{dependent_bound, derived_bound, term_total_bound}
 
@@ -48,11 +49,11 @@ pub count_low : (x : Der) (i : ℕ) → order (derivative_of x).counts ≤ 63 �
 count_low x i h = let e = order_trimmed x.counts in let k = index_order i x.counts in omega arith
 
 -- ---- what holds of the coefficients holds of those with absolute values
-pub jets_sizes : (S : Space) (n : ℕ) (E : LinearForm) → HasJetsUpTo S n E → HasJetsUpTo S n (each_coefficient absolute E)
-jets_sizes S n E h d = subst (IsIn (is_below (coordinates_up_to S n))) (sym (at_sizes E d)) (λ v out m apart. h d v out m (λ z. apart (coefficient_absolute (at E d) m ∙ ap (λ y. pos (unsigned_abs y)) z)))
+pub jets_absolute : (S : Space) (n : ℕ) (E : LinearForm) → HasJetsUpTo S n E → HasJetsUpTo S n (each_coefficient absolute E)
+jets_absolute S n E h d = subst (IsIn (is_below (coordinates_up_to S n))) (sym (at_absolute E d)) (λ v out m apart. h d v out m (λ z. apart (coefficient_absolute (at E d) m ∙ ap (λ y. pos (unsigned_abs y)) z)))
 
-pub orders_sizes : (n : ℕ) (E : LinearForm) → HasOrdersUpTo n E → HasOrdersUpTo n (each_coefficient absolute E)
-orders_sizes n E h d past = at_sizes E d ∙ ap absolute (h d past) ∙ absolute_none
+pub orders_absolute : (n : ℕ) (E : LinearForm) → HasOrdersUpTo n E → HasOrdersUpTo n (each_coefficient absolute E)
+orders_absolute n E h d past = at_absolute E d ∙ ap absolute (h d past) ∙ absolute_none
 
 -- ---- one put
 pub at_term : (d : Derivative) (b : WholePolynomial) → at (form_term d b) d ≡ b
@@ -65,20 +66,20 @@ starved_cause NoMemory B h = (record { unknown = 0; counts = [] }, tt)
 
 -- what is put has a cause
 pub part_cause : (fail : PolyFail) (E Y : LinearForm) (d : Derivative) (b : WholePolynomial) → IsFormBound (form_term d b) Y → IsCause fail b → IsFormCoefficientCause fail (each_coefficient absolute E +ᶠ Y)
-part_cause fail E Y d b h cause = cause_bound fail (form_term d b) (each_coefficient absolute E +ᶠ Y) (form_trans _ Y _ h (form_second (each_coefficient absolute E) Y (form_plain _ _ (form_sizes E)) (form_plain _ _ h))) (d, subst (IsCause fail) (sym (at_term d b)) cause)
+part_cause fail E Y d b h cause = cause_bound fail (form_term d b) (each_coefficient absolute E +ᶠ Y) (form_trans _ Y _ h (form_second (each_coefficient absolute E) Y (form_plain _ _ (form_absolute E)) (form_plain _ _ h))) (d, subst (IsCause fail) (sym (at_term d b)) cause)
 
 -- the sum has a cause
 pub put_cause : (fail : PolyFail) (E : LinearForm) (d : Derivative) (p b : WholePolynomial) → IsBound p b → IsCause fail (absolute (at E d) +ᴾ absolute p) → IsFormCoefficientCause fail (each_coefficient absolute E +ᶠ form_term d b)
-put_cause fail E d p b h cause = (d, subst (IsCause fail) (sym (value-plus forms (each_coefficient absolute E) (form_term d b) d ∙ ap₂ ◌+ᴾ◌ (at_sizes E d) (at_term d b))) (cause_covered fail (absolute (at E d) +ᴾ absolute p) (absolute (at E d) +ᴾ b) (sum_bound (absolute (at E d)) (absolute p) (absolute (at E d)) b (plain_bound (absolute (at E d)) (absolute_bound (at E d)).plain) (covered_absolute p b h)).covered cause))
+put_cause fail E d p b h cause = (d, subst (IsCause fail) (sym (value-plus forms (each_coefficient absolute E) (form_term d b) d ∙ ap₂ ◌+ᴾ◌ (at_absolute E d) (at_term d b))) (cause_covered fail (absolute (at E d) +ᴾ absolute p) (absolute (at E d) +ᴾ b) (sum_bound (absolute (at E d)) (absolute p) (absolute (at E d)) b (plain_bound (absolute (at E d)) (absolute_bound (at E d)).plain) (covered_absolute p b h)).covered cause))
 
 -- the first of two parts, and the second
 pub first_cause : (fail : PolyFail) (E Y R : LinearForm) → IsPlain Y → IsPlain R → IsFormCoefficientCause fail (each_coefficient absolute E +ᶠ Y) → IsFormCoefficientCause fail (each_coefficient absolute E +ᶠ (Y +ᶠ R))
-first_cause fail E Y R h k cause = cause_bound fail _ _ (form_sum _ Y _ (Y +ᶠ R) (form_plain _ _ (form_sizes E)) (form_first Y R h k)) cause
+first_cause fail E Y R h k cause = cause_bound fail _ _ (form_sum _ Y _ (Y +ᶠ R) (form_plain _ _ (form_absolute E)) (form_first Y R h k)) cause
 
 pub second_cause : (fail : PolyFail) (E X B G Y : LinearForm) → G ≡ E +ᶠ X → IsFormBound X B → IsPlain Y → IsFormCoefficientCause fail (each_coefficient absolute G +ᶠ Y) → IsFormCoefficientCause fail (each_coefficient absolute E +ᶠ (B +ᶠ Y))
 second_cause fail E X B G Y e h k cause =
     subst (IsFormCoefficientCause fail) (plus_assoc forms (each_coefficient absolute E) B Y)
-    (cause_bound fail _ _ (form_sum _ Y (each_coefficient absolute E +ᶠ B) Y (sizes_bound G (each_coefficient absolute E +ᶠ B) (subst (λ K. IsFormBound K (each_coefficient absolute E +ᶠ B)) (sym e) (form_sum E X _ B (form_sizes E) h))) k) cause)
+    (cause_bound fail _ _ (form_sum _ Y (each_coefficient absolute E +ᶠ B) Y (form_absolute_bound G (each_coefficient absolute E +ᶠ B) (subst (λ K. IsFormBound K (each_coefficient absolute E +ᶠ B)) (sym e) (form_sum E X _ B (form_absolute E) h))) k) cause)
 
 module _ (S : Space) (small : IsSmall S) (i : ℕ) (inside : i < S.p) (d : Derivative) (a : WholePolynomial) where
   total_one : IsFormBound (form_term d (total_derivative S i a)) (form_term d (total_derivative S i (absolute a)))
@@ -113,8 +114,8 @@ module _ (S : Space) (small : IsSmall S) (i : ℕ) (inside : i < S.p) (d : Deriv
   some : ℕ → LinearForm
   some b = forms_over (numbers_below b) (dependent_term S i d a)
 
-  some_sizes : ℕ → LinearForm
-  some_sizes b = forms_over (numbers_below b) (dependent_term S i d (absolute a))
+  some_absolutes : ℕ → LinearForm
+  some_absolutes b = forms_over (numbers_below b) (dependent_term S i d (absolute a))
 
   pub one_more_sum : (E G H : LinearForm) (b : ℕ) → G ≡ E +ᶠ (form_term (raised i d) a +ᶠ forms_over (numbers_below b) (dependent_term S i d a)) → H ≡ G +ᶠ dependent_term S i d a b → H ≡ E +ᶠ (form_term (raised i d) a +ᶠ forms_over (numbers_below (b + 1)) (dependent_term S i d a))
   unfolding some
@@ -126,10 +127,10 @@ module _ (S : Space) (small : IsSmall S) (i : ℕ) (inside : i < S.p) (d : Deriv
       next b = omega arith
 
   pub dependent_cause : (fail : PolyFail) (E G : LinearForm) (b : ℕ) → b < S.q → G ≡ E +ᶠ (form_term (raised i d) a +ᶠ forms_over (numbers_below b) (dependent_term S i d a)) → IsFormCoefficientCause fail (each_coefficient absolute G +ᶠ dependent_term S i d (absolute a) b) → IsFormCoefficientCause fail (each_coefficient absolute E +ᶠ derived_term S i d (absolute a))
-  unfolding some some_sizes
+  unfolding some some_absolutes
   dependent_cause fail E G b h e cause =
-      cause_bound fail _ _ (form_sum _ _ _ _ (form_plain _ _ (form_sizes E)) wider)
-      (second_cause fail E (form_term (raised i d) a +ᶠ some b) (form_term (raised i d) (absolute a) +ᶠ some_sizes b) G (dependent_term S i d (absolute a) b) e (form_sum _ _ _ _ raised_one (over_bound _ _ (numbers_below b) (dependent_bound S small i inside d a))) (plain b) cause)
+      cause_bound fail _ _ (form_sum _ _ _ _ (form_plain _ _ (form_absolute E)) wider)
+      (second_cause fail E (form_term (raised i d) a +ᶠ some b) (form_term (raised i d) (absolute a) +ᶠ some_absolutes b) G (dependent_term S i d (absolute a) b) e (form_sum _ _ _ _ raised_one (over_bound _ _ (numbers_below b) (dependent_bound S small i inside d a))) (plain b) cause)
     where
       plain : (b : ℕ) → IsPlain (dependent_term S i d (absolute a) b)
       plain b = form_plain _ _ (dependent_bound S small i inside d a b)
@@ -137,16 +138,16 @@ module _ (S : Space) (small : IsSmall S) (i : ℕ) (inside : i < S.p) (d : Deriv
       less : suc b ≤ S.q
       less = omega arith
 
-      wider : IsFormBound ((form_term (raised i d) (absolute a) +ᶠ some_sizes b) +ᶠ dependent_term S i d (absolute a) b) (derived_term S i d (absolute a))
+      wider : IsFormBound ((form_term (raised i d) (absolute a) +ᶠ some_absolutes b) +ᶠ dependent_term S i d (absolute a) b) (derived_term S i d (absolute a))
       wider =
           subst (λ K. IsFormBound K (derived_term S i d (absolute a)))
-          (sym (plus_assoc forms (form_term (raised i d) (absolute a)) (some_sizes b) (dependent_term S i d (absolute a) b) ∙ ap (λ K. form_term (raised i d) (absolute a) +ᶠ K) (plus_comm forms (some_sizes b) (dependent_term S i d (absolute a) b))))
+          (sym (plus_assoc forms (form_term (raised i d) (absolute a)) (some_absolutes b) (dependent_term S i d (absolute a) b) ∙ ap (λ K. form_term (raised i d) (absolute a) +ᶠ K) (plus_comm forms (some_absolutes b) (dependent_term S i d (absolute a) b))))
           (form_sum _ _ _ _ (form_plain _ _ raised_one) (fewer_bound (dependent_term S i d (absolute a)) plain (suc b) S.q less))
 
 -- ---- the terms of the form, one by one
-pub over_sizes : (φ : Derivative → WholePolynomial → LinearForm) (es : List (Derivative × WholePolynomial)) → over_entries φ (sizes_of es) ≡ over_entries (λ d a. φ d (absolute a)) es
-over_sizes φ [] = refl
-over_sizes φ (e ∷ es) = ap (λ E. φ e.0 (absolute e.1) +ᶠ E) (over_sizes φ es)
+pub over_absolutes : (φ : Derivative → WholePolynomial → LinearForm) (es : List (Derivative × WholePolynomial)) → over_entries φ (entry_absolutes es) ≡ over_entries (λ d a. φ d (absolute a)) es
+over_absolutes φ [] = refl
+over_absolutes φ (e ∷ es) = ap (λ E. φ e.0 (absolute e.1) +ᶠ E) (over_absolutes φ es)
 
 module _ (φ : Derivative → WholePolynomial → LinearForm) (ts : List (Der × WholePolynomial)) (k : ℕ) (x : Der × WholePolynomial) (h : k < length ts) (e : x ≡ get_or ts k x) where
   pub entries_step : over_entries φ (take (k + 1) (derivative_terms ts)) ≡ over_entries φ (take k (derivative_terms ts)) +ᶠ φ (derivative_of x.0) x.1
@@ -156,15 +157,15 @@ module _ (φ : Derivative → WholePolynomial → LinearForm) (ts : List (Der ×
       ∙ ap (λ E. over_entries φ (take k (derivative_terms ts)) +ᶠ E) (idr (finite_laws.adder forms) (φ (derivative_of x.0) x.1))
 
 module _ (S : Space) (small : IsSmall S) (i : ℕ) (inside : i < S.p) (E : LinearForm) where
-  sizes_total : ℕ → Derivative → WholePolynomial → LinearForm
-  sizes_total j d a = total_of_term S j d (absolute a)
+  absolute_total : ℕ → Derivative → WholePolynomial → LinearForm
+  absolute_total j d a = total_of_term S j d (absolute a)
 
   same_parts : (d : Derivative) (a : WholePolynomial) → (form_term d (total_derivative S i a) +ᶠ form_term (raised i d) a) +ᶠ forms_over (numbers_below S.q) (dependent_term S i d a) ≡ total_of_term S i d a
   same_parts d a = plus_assoc forms (form_term d (total_derivative S i a)) (form_term (raised i d) a) (forms_over (numbers_below S.q) (dependent_term S i d a))
 
-  bulk_is : symbolic_total S i (each_coefficient absolute E) ≡ over_entries (sizes_total i) E.list
-  unfolding symbolic_total sizes_total
-  bulk_is = ap (λ φ. over_entries φ (each_coefficient absolute E).list) (fun_ext (λ d. fun_ext (same_parts d))) ∙ ap (over_entries (total_of_term S i)) (list_sizes E) ∙ over_sizes (total_of_term S i) E.list
+  bulk_is : symbolic_total S i (each_coefficient absolute E) ≡ over_entries (absolute_total i) E.list
+  unfolding symbolic_total absolute_total
+  bulk_is = ap (λ φ. over_entries φ (each_coefficient absolute E).list) (fun_ext (λ d. fun_ext (same_parts d))) ∙ ap (over_entries (total_of_term S i)) (list_absolutes E) ∙ over_absolutes (total_of_term S i) E.list
 
   pub total_is : (es : List (Derivative × WholePolynomial)) → es ≡ E.list → over_entries (total_of_term S i) es ≡ symbolic_total S i E
   unfolding symbolic_total
@@ -172,12 +173,12 @@ module _ (S : Space) (small : IsSmall S) (i : ℕ) (inside : i < S.p) (E : Linea
 
   pub entry_cause : (fail : PolyFail) (G : LinearForm) (ts : List (Der × WholePolynomial)) (k : ℕ) (x : Der × WholePolynomial) → k < length ts → x ≡ get_or ts k x → derivative_terms ts ≡ E.list → G ≡ over_entries (total_of_term S i) (take k (derivative_terms ts)) →
       IsFormCoefficientCause fail (each_coefficient absolute G +ᶠ total_of_term S i (derivative_of x.0) (absolute x.1)) → IsFormCoefficientCause fail (symbolic_total S i (each_coefficient absolute E))
-  unfolding sizes_total
+  unfolding absolute_total
   entry_cause fail G ts k x h e all is cause =
       cause_bound fail _ _
-      (subst (IsFormBound _) (sym (bulk_is ∙ ap (over_entries (sizes_total i)) (sym all)))
-      (form_trans _ _ _ (subst (IsFormBound _) (sym (entries_step (sizes_total i) ts k x h e)) (form_sum _ _ _ _ (sizes_bound G _ (subst (λ K. IsFormBound K (over_entries (sizes_total i) (take k (derivative_terms ts)))) (sym is) (entries_bound (total_of_term S i) (sizes_total i) (term_total_bound S small i inside) (take k (derivative_terms ts))))) (form_plain _ _ (term_total_bound S small i inside (derivative_of x.0) x.1))))
-      (front_bound (sizes_total i) (λ d a. form_plain _ _ (term_total_bound S small i inside d a)) (derivative_terms ts) (k + 1)))) cause
+      (subst (IsFormBound _) (sym (bulk_is ∙ ap (over_entries (absolute_total i)) (sym all)))
+      (form_trans _ _ _ (subst (IsFormBound _) (sym (entries_step (absolute_total i) ts k x h e)) (form_sum _ _ _ _ (form_absolute_bound G _ (subst (λ K. IsFormBound K (over_entries (absolute_total i) (take k (derivative_terms ts)))) (sym is) (entries_bound (total_of_term S i) (absolute_total i) (term_total_bound S small i inside) (take k (derivative_terms ts))))) (form_plain _ _ (term_total_bound S small i inside (derivative_of x.0) x.1))))
+      (front_bound (absolute_total i) (λ d a. form_plain _ _ (term_total_bound S small i inside d a)) (derivative_terms ts) (k + 1)))) cause
 
 -- ---- the entries of a form
 module _ (S : Space) (m n : ℕ) (E : LinearForm) (jets : HasJetsUpTo S m E) (orders : HasOrdersUpTo n E) where
@@ -198,11 +199,11 @@ module _ (S : Space) (m n : ℕ) (E : LinearForm) (jets : HasJetsUpTo S m E) (or
 
 -- ---- the total derivative of a form is bounded
 pub form_total_bound : (S : Space) (small : IsSmall S) (i : ℕ) (inside : i < S.p) (E : LinearForm) → IsFormBound (symbolic_total S i E) (symbolic_total S i (each_coefficient absolute E))
-unfolding sizes_total
+unfolding absolute_total
 form_total_bound S small i inside E =
     subst₂ IsFormBound (total_is S small i inside E E.list refl) (sym (bulk_is S small i inside E))
     (entries_bound (total_of_term S i) (λ d a. total_of_term S i d (absolute a)) (term_total_bound S small i inside) E.list)
 
 -- ---- the form with absolute values has the same bulk
-pub of_sizes : (S : Space) (i : ℕ) (fail : PolyFail) (E A : LinearForm) → A ≡ each_coefficient absolute E → IsFormCoefficientCause fail (symbolic_total S i (each_coefficient absolute A)) → IsFormCoefficientCause fail (symbolic_total S i (each_coefficient absolute E))
-of_sizes S i fail E A e = subst (λ (B : LinearForm). IsFormCoefficientCause fail (symbolic_total S i B)) (ap (each_coefficient absolute) e ∙ sizes_twice E)
+pub of_absolute : (S : Space) (i : ℕ) (fail : PolyFail) (E A : LinearForm) → A ≡ each_coefficient absolute E → IsFormCoefficientCause fail (symbolic_total S i (each_coefficient absolute A)) → IsFormCoefficientCause fail (symbolic_total S i (each_coefficient absolute E))
+of_absolute S i fail E A e = subst (λ (B : LinearForm). IsFormCoefficientCause fail (symbolic_total S i B)) (ap (each_coefficient absolute) e ∙ form_absolute_twice E)

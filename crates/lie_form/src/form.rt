@@ -85,7 +85,7 @@ impl SymForm {
 
     /// The form with the absolute values of the coefficients of its polynomials.
     pub fn absolute(&self, alloc: Global) -> Result<SymForm, PolyFail>
-        ensures sizes { IfOk result (λ form. form ≡ each_coefficient absolute self.now) }
+        ensures absolute { IfOk result (λ form. form ≡ each_coefficient absolute self.now) }
         ensures memory { IfErr result IsStarved }
     {
         let mut terms = Vec::new(alloc);
@@ -168,10 +168,7 @@ fn add_at_place(
     ensures past { IfErr result (λ fail. HoldsAt (derivative_terms terms.old.items) place
         (λ a. IsCause fail (absolute a +ᴾ absolute poly.now))) }
 {
-    let sum = match terms[place].1.add(alloc, poly) {
-        Ok(sum) => sum,
-        Err(fail) => return Err(fail),
-    };
+    let sum = terms[place].1.add(alloc, poly)?;
     put_coefficient(terms, place, sum);
     Ok(())
 }

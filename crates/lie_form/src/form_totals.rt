@@ -31,8 +31,8 @@ pub fn total_sym(alloc: Global, space: Space, i: u8, form: &SymForm) -> Result<S
     ensures fits { OnOk result (IsFormWithinLimits (symbolic_total space i (each_coefficient absolute form.now))) }
     ensures past { IfErr result (λ fail. IsFormCause fail (symbolic_total space i (each_coefficient absolute form.now))) }
 {
-    let sizes = form.absolute(alloc)?;
-    let bulk = sum_of_totals(alloc, space, i, &sizes)?;
+    let absolute = form.absolute(alloc)?;
+    let bulk = sum_of_totals(alloc, space, i, &absolute)?;
     bulk.within_limits()?;
     sum_of_totals(alloc, space, i, form)
 }

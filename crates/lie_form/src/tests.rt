@@ -6,7 +6,7 @@ ghost use Rattle.lie_math.proofs.Kept.{pairs_in};
 
 use crate::{SymForm, total_sym};
 use lie_jet::{Der, JetPoly, Space, raise_derivative};
-use lie_ring::{Mono, PastKind, PolyFail, Polynomial, Ring, Whole};
+use lie_ring::{Mono, PastKind, PolyFail, Polynomial, Ring, Whole, constant_polynomial};
 use std::alloc::Global;
 use std::test::Fail;
 
@@ -42,8 +42,7 @@ fn product(alloc: Global, pairs: &[(u32, u32)]) -> Result<JetPoly, Fail>
 /// A number as a polynomial.
 fn number(alloc: Global, c: i128) -> Result<JetPoly, Fail> {
     let c = Whole::new(c).ok_or("too wide")?;
-    let terms = vec![in alloc; (Mono::one(alloc), c)]?;
-    Ok(JetPoly::of_terms(alloc, terms.as_slice())?)
+    Ok(constant_polynomial(alloc, c)?)
 }
 
 #[test]

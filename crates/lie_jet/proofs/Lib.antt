@@ -9,6 +9,8 @@ pub mod TotalParts
 pub mod DerivativeCounts
 pub mod Absolutes
 pub mod PolynomialBounds
+pub mod BoundedPolynomials
+pub mod PositiveMaps
 pub mod TotalBounds
 pub mod JetsBelow
 pub mod JetLists

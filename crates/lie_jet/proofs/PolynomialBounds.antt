@@ -46,12 +46,12 @@ pub record IsBound (p b : WholePolynomial) : Type 0 where
   pub covered : IsCovered p b
   pub plain : IsNonNegative b
 
-sum_sizes : (x y a b s t : ℤ) → s ≡ x +ℤ y → t ≡ a +ℤ b → unsigned_abs x ≤ unsigned_abs a → unsigned_abs y ≤ unsigned_abs b → a ≡ pos (unsigned_abs a) → b ≡ pos (unsigned_abs b) → unsigned_abs s ≤ unsigned_abs t
-sum_sizes x y a b s t e f h k p q = omega (arith, ints)
+absolute_sum : (x y a b s t : ℤ) → s ≡ x +ℤ y → t ≡ a +ℤ b → unsigned_abs x ≤ unsigned_abs a → unsigned_abs y ≤ unsigned_abs b → a ≡ pos (unsigned_abs a) → b ≡ pos (unsigned_abs b) → unsigned_abs s ≤ unsigned_abs t
+absolute_sum x y a b s t e f h k p q = omega (arith, ints)
 
 pub sum_bound : (p q b c : WholePolynomial) → IsBound p b → IsBound q c → IsBound (p +ᴾ q) (b +ᴾ c)
 sum_bound p q b c h k = record {
-  covered = record { at_most = λ m. sum_sizes (coefficient p m) (coefficient q m) (coefficient b m) (coefficient c m) _ _ (value-plus terms p q m) (value-plus terms b c m) (h.covered.at_most m) (k.covered.at_most m) (h.plain.plain m) (k.plain.plain m) };
+  covered = record { at_most = λ m. absolute_sum (coefficient p m) (coefficient q m) (coefficient b m) (coefficient c m) _ _ (value-plus terms p q m) (value-plus terms b c m) (h.covered.at_most m) (k.covered.at_most m) (h.plain.plain m) (k.plain.plain m) };
   plain = nonneg_sum b c h.plain k.plain;
 }
 

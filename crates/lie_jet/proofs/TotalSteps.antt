@@ -3,11 +3,9 @@ use Rattle.std.specs.Prelude.{◌≡◌, ℕ, ◌<◌, ◌≤◌, ◌^◌, List,
 use Rattle.std.proofs.Common.{Result, Ok, Err, sym, ap, ap₂, subst, ◌∙◌, arith}
 use Rattle.std.proofs.lemmas.Int.{unsigned_abs-mul}
 use borrow.Author.Differences.{ints}
-use Rattle.lie_math.specs.FiniteSum as finite
-use Rattle.lie_math.specs.FiniteSumLaws.{same_list, list-of}
 use Rattle.lie_math.specs.Limits.{absolutes}
 use Rattle.lie_math.specs.Limits.{HasWideCoefficient}
-use Rattle.lie_math.specs.Monomial.{Monomial, powers, ◌·◌, single}
+use Rattle.lie_math.specs.Monomial.{Monomial, ◌·◌}
 use Rattle.lie_math.specs.MonomialOrder.{·_comm}
 use Rattle.lie_math.specs.Polynomial.{WholePolynomial, terms, term, 0ᴾ, polynomial_of, ◌+ᴾ◌, ◌*ᴾ◌}
 use Rattle.lie_math.specs.PolynomialRing.{polynomial_ring, term_times_term, 0ᴾ-*ᴾ}
@@ -26,11 +24,6 @@ use Rattle.lie_poly.specs.Failures.{IsTermCause}
 use Rattle.lie_poly.proofs.TimesSteps.{term_cause}
 use Rattle.lie_jet.specs.Listed.{sum_listed, bulk_listed}
 use Rattle.lie_math.specs.Integer.{*ℤ-idl}
-
--- ---- a variable alone
-pub single_is : (v : ℕ) (m : Monomial) → m.list ≡ (v, 1) ∷ [] → m ≡ single v
-unfolding finite.term
-single_is v m e = same_list powers m (single v) (e ∙ sym (list-of powers ((v, 1) ∷ []) tt))
 
 -- ---- the absolute value of a multiple
 pub size_times : (c : ℤ) (n : ℕ) → pos (unsigned_abs (c *ℤ pos n)) ≡ pos (unsigned_abs c) *ℤ pos n

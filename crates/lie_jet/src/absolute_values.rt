@@ -4,12 +4,12 @@ ghost use Rattle.lie_math.specs.Limits.{absolute};
 ghost use Rattle.lie_poly.specs.Failures.{IsStarved};
 
 use crate::totals::JetPoly;
-use lie_ring::{Mono, PolyFail, Polynomial, Ring, Whole};
+use lie_ring::{Mono, PolyFail, Polynomial, Whole};
 use std::alloc::Global;
 
 /// The polynomial with the absolute values of its coefficients.
 pub fn absolute_polynomial(alloc: Global, p: &JetPoly) -> Result<JetPoly, PolyFail>
-    ensures sizes { IfOk result (λ a. a ≡ absolute p.now) }
+    ensures absolute { IfOk result (λ a. a ≡ absolute p.now) }
     ensures memory { IfErr result IsStarved }
 {
     let mut absolutes = Vec::with_capacity(alloc, p.len())?;
@@ -30,7 +30,7 @@ fn push_absolute(
     ensures memory { IfErr result IsStarved }
 {
     let mono = term.0.copy(alloc)?;
-    absolutes.push((mono, absolute_value(term.1)))?;
+    absolutes.push((mono, term.1.absolute()))?;
     Ok(())
 }
 
@@ -38,5 +38,5 @@ fn push_absolute(
 pub fn absolute_value(c: Whole) -> Whole
     ensures { result ≡ pos (unsigned_abs c) }
 {
-    if c.get() < 0 { c.neg() } else { c }
+    c.absolute()
 }

@@ -1,18 +1,16 @@
 // What variables become when they are derived.
-ghost use Rattle.std.specs.Prelude.{◌≡◌, ◌<◌, take, IfOk, IfErr};
+ghost use Rattle.std.specs.Prelude.{◌≡◌, ◌<◌, take};
 ghost use Rattle.lie_math.specs.Counts.{raise};
-ghost use Rattle.lie_math.specs.Monomial.{single as variable_alone};
 ghost use Rattle.lie_math.specs.Polynomial.{variable};
 ghost use Rattle.lie_geometry.specs.Coordinates.{coordinates_up_to, jet as jet_at};
 ghost use Rattle.lie_geometry.specs.Prolongation.{total_derivative};
 ghost use Rattle.lie_jet.specs.Jets.{coordinate_of, IsJet};
-ghost use Rattle.lie_poly.specs.Failures.{IsStarved};
 ghost use Rattle.lie_jet.specs.Slopes.{IsSlope};
 
 use crate::jet::Jet;
 use crate::numbering::{jet_number, jet_of};
 use crate::space::Space;
-use lie_ring::{Mono, PolyFail};
+use lie_ring::Mono;
 use std::alloc::Global;
 
 /// The jet, derived once more by the independent variable `i`, which lies below p.
@@ -28,34 +26,23 @@ pub fn raise_jet(space: Space, jet: &Jet, i: u8) -> Jet
 }
 
 /// What the variable becomes: None where that is 0, and else the monomial. The variable is independent or a jet of order at most 11.
-pub fn slope_of(alloc: Global, space: Space, i: u8, var: u32) -> Result<Option<Mono>, PolyFail>
+/// It takes no memory.
+pub fn slope_of(alloc: Global, space: Space, i: u8, var: u32) -> Option<Mono>
     requires within { i < space.p }
     requires low { var < coordinates_up_to space 11 }
-    ensures slope { IfOk result (λ factor. IsSlope factor (total_derivative space i (variable var))) }
-    ensures memory { IfErr result IsStarved }
+    ensures { IsSlope result (total_derivative space i (variable var)) }
 {
     match jet_of(space, var) {
-        Some(jet) => match single(alloc, jet_number(space, &raise_jet(space, &jet, i))) {
-            Ok(factor) => Ok(Some(factor)),
-            Err(fail) => Err(fail),
-        },
+        Some(jet) => {
+            let number = jet_number(space, &raise_jet(space, &jet, i));
+            Some(Mono::variable(alloc, number))
+        }
         None => {
             if var == u32::from(i) {
-                Ok(Some(Mono::one(alloc)))
+                Some(Mono::one(alloc))
             } else {
-                Ok(None)
+                None
             }
         }
-    }
-}
-
-/// A variable alone.
-pub fn single(alloc: Global, var: u32) -> Result<Mono, PolyFail>
-    ensures single { IfOk result (λ mono. mono ≡ variable_alone var) }
-    ensures memory { IfErr result IsStarved }
-{
-    match Mono::new(alloc, &[(var, 1)])? {
-        Some(mono) => Ok(mono),
-        None => unreachable!(),
     }
 }

@@ -28,6 +28,4 @@ impl Model for Space {
 /// A space has 1 to 4 variables of each kind, which becomes known where this is called.
 pub fn space_is_small(space: Space)
     ensures { IsSmall space }
-{
-    let _ = &space.p;
-}
+{}

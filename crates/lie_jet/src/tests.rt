@@ -8,7 +8,7 @@ use crate::{
     Der, Field, Jet, JetPoly, Space, absolute_polynomial, absolute_value, compare_derivatives,
     jet_number, jet_of, jets_up_to, raise_derivative, total,
 };
-use lie_ring::{Mono, PastKind, PolyFail, Polynomial, Ring, Whole};
+use lie_ring::{Mono, PastKind, PolyFail, Polynomial, Ring, Whole, constant_polynomial};
 use std::alloc::Global;
 use std::cmp::Ordering;
 use std::test::Fail;
@@ -135,8 +135,7 @@ fn totals_of_products(rt: HostRuntime) -> Result<(), Fail> {
 /// A number as a polynomial.
 fn number(alloc: Global, c: i128) -> Result<JetPoly, Fail> {
     let c = Whole::new(c).ok_or("too wide")?;
-    let terms = vec![in alloc; (Mono::one(alloc), c)]?;
-    Ok(JetPoly::of_terms(alloc, terms.as_slice())?)
+    Ok(constant_polynomial(alloc, c)?)
 }
 
 #[test]
@@ -154,11 +153,10 @@ fn absolute_values(rt: HostRuntime) -> Result<(), Fail> {
     let alloc = rt.alloc();
     let c = Whole::new(-3).ok_or("too wide")?;
     assert_eq!(rt; absolute_value(c).get(), 3);
-    let terms = vec![in alloc; (Mono::one(alloc), c)]?;
-    let p = JetPoly::of_terms(alloc, terms.as_slice())?;
-    let sizes = absolute_polynomial(alloc, &p)?.terms(alloc)?;
-    assert_eq!(rt; sizes.len(), 1);
-    assert_eq!(rt; sizes[0].1.get(), 3);
+    let p: JetPoly = constant_polynomial(alloc, c)?;
+    let absolute = absolute_polynomial(alloc, &p)?.terms(alloc)?;
+    assert_eq!(rt; absolute.len(), 1);
+    assert_eq!(rt; absolute[0].1.get(), 3);
     Ok(())
 }
 

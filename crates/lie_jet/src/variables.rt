@@ -8,10 +8,10 @@ ghost use Rattle.lie_poly.specs.Failures.{IsStarved};
 
 use crate::jet::Jet;
 use crate::numbering::jet_number;
-use crate::slopes::{raise_jet, single};
+use crate::slopes::raise_jet;
 use crate::space::{Space, space_is_small};
 use crate::totals::JetPoly;
-use lie_ring::{PolyFail, Polynomial, Ring, Whole};
+use lie_ring::{Mono, PolyFail, Ring, Whole, term_polynomial};
 use std::alloc::Global;
 
 /// The variable with a number, times 1 or -1.
@@ -20,8 +20,7 @@ pub fn signed_variable(alloc: Global, number: u32, sign: Whole) -> Result<JetPol
     ensures variable { IfOk result (λ p. p ≡ term (variable_alone number) sign) }
     ensures memory { IfErr result IsStarved }
 {
-    let mono = single(alloc, number)?;
-    JetPoly::of_terms(alloc, &[(mono, sign)])
+    Ok(term_polynomial(alloc, Mono::variable(alloc, number), sign)?)
 }
 
 /// The dependent variable `b`, derived by the independent variable `i`.

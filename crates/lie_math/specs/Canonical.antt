@@ -82,10 +82,14 @@ module _ {K A : Type 0} (R : K → K → Ordering) (V : Values A) (o : IsTotalOr
     a,
   ) ∷ es)))) [ true ↦ h | false ↦ both _ _ (subst (λ r. T (is_lt r)) (sym p) tt) h ]
 
+  -- what is made where a is added at k to e ∷ es, by the order of k and the key of e
+  abbrev added_by : Ordering → K → A → K × A → List (K × A) → List (K × A)
+  added_by r k a e es = by_order r (put_new R V k a (e ∷ es)) (put_new R V k (V.adder.plus a e.1) es) (e ∷ add_at R V k a es)
+
   pub below-add_at : (x k : K) (a : A) (es : List (K × A)) → R x k ≡ Less → T (below_all R V x es) → T (below_all R V x (add_at R V k a es))
   below-add_at x k a [] p h = below-put_new x k a [] p h
   below-add_at x k a (e ∷ es) p h =
-      elim (R k e.0) as (λ r. T (below_all R V x (by_order r (put_new R V k a (e ∷ es)) (put_new R V k (V.adder.plus a e.1) es) (e ∷ add_at R V k a es)))) [
+      elim (R k e.0) as (λ r. T (below_all R V x (added_by r k a e es))) [
         | Less ↦ below-put_new x k a (e ∷ es) p h
         | Equal ↦ below-put_new x k _ es p (second _ _ h)
         | Greater ↦ both _ _ (first _ _ h) (below-add_at x k a es p (second _ _ h))
@@ -105,7 +109,7 @@ module _ {K A : Type 0} (R : K → K → Ordering) (V : Values A) (o : IsTotalOr
       let tail : T (below_all R V e.0 es && is_canonical R V es) = second (not (V.is_nil e.1)) _ h in
       let is_below : T (below_all R V e.0 es) = first _ (is_canonical R V es) tail in
       let rest : T (is_canonical R V es) = second (below_all R V e.0 es) _ tail in
-      elim (R k e.0) as (λ r. R k e.0 ≡ r → T (is_canonical R V (by_order r (put_new R V k a (e ∷ es)) (put_new R V k (V.adder.plus a e.1) es) (e ∷ add_at R V k a es)))) [
+      elim (R k e.0) as (λ r. R k e.0 ≡ r → T (is_canonical R V (added_by r k a e es))) [
         | Less ↦ λ p. canonical-put_new k a (e ∷ es) (both _ _ (subst (λ r. T (is_lt r)) (sym p) tt) (below_less k e.0 es p is_below)) h
         | Equal ↦ λ p. canonical-put_new k _ es (subst (λ x. T (below_all R V x es)) (sym (same k e.0 p)) is_below) rest
         | Greater ↦ λ p. both _ _ (first _ _ h) (both _ _ (below-add_at e.0 k a es (o.antisymm e.0 k
@@ -208,10 +212,15 @@ module _ {K A : Type 0} (R : K → K → Ordering) (V : Values A) (o : IsTotalOr
             (λ x. sym (is x)))
       ] refl
 
+  conditional_plus : (t : Bool) (a b : A)
+      → cond t (V.adder.plus a b) V.adder.nil ≡ V.adder.plus (cond t a V.adder.nil) (cond t b V.adder.nil)
+  conditional_plus true a b = refl
+  conditional_plus false a b = sym (V.adder.idl _)
+
   pub delta_additive : (q : K) → Additive V.adder V.adder (delta R V q)
   delta_additive q = record {
     on_nil = λ k. elim (eq_by_cmp R q k) as (λ b. cond b V.adder.nil V.adder.nil ≡ V.adder.nil) [ true ↦ refl | false ↦ refl ];
-    on_plus = λ k a b. elim (eq_by_cmp R q k) as (λ t. cond t (V.adder.plus a b) V.adder.nil ≡ V.adder.plus (cond t a V.adder.nil) (cond t b V.adder.nil)) [ true ↦ refl | false ↦ sym (V.adder.idl _) ];
+    on_plus = λ k a b. conditional_plus (eq_by_cmp R q k) a b;
   }
 
   -- lists with the same values have one normal form

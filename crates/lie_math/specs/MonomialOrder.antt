@@ -10,9 +10,12 @@ use Rattle.lie_math.specs.FiniteSumLaws.{plus_assoc, plus_comm, plus_idl, same_l
 use Rattle.lie_math.specs.Monomial.{Monomial, degree, monomial_cmp, pair_cmp, powers, unit, ◌·◌}
 use Rattle.lie_math.specs.FiniteSumLaws as finite_laws
 
+pair_cmp_total : IsTotalOrder pair_cmp
+pair_cmp_total = then_total (on_total (λ (p : ℕ × ℕ). p.0) nat_cmp_total) (on_total (λ (p : ℕ × ℕ). p.1) (back_total nat_cmp_total))
+
 pub monomial_cmp_total : IsTotalOrder monomial_cmp
 monomial_cmp_total =
-    then_total (on_total degree (back_total nat_cmp_total)) (on_total (λ (m : Monomial). m.list) (lists_total (then_total (on_total (λ (p : ℕ × ℕ). p.0) nat_cmp_total) (on_total (λ (p : ℕ × ℕ). p.1) (back_total nat_cmp_total)))))
+    then_total (on_total degree (back_total nat_cmp_total)) (on_total (λ (m : Monomial). m.list) (lists_total pair_cmp_total))
 
 -- two orders, the one after the other
 pub then_equal : (a b : Ordering) → ordering_then a b ≡ Equal → (a ≡ Equal) × (b ≡ Equal)

@@ -47,10 +47,17 @@ over_additive F q add = record {
 pub times_additive : (q : WholePolynomial) → AdditiveOnTerms (λ m a. over_terms (λ n b. term (m · n) (a *ℤ b)) q)
 times_additive q = over_additive (λ m a n b. term (m · n) (a *ℤ b)) q times_left
 
+-- the product of two terms, by the monomials and the numbers of both
+abbrev ProductOfTerms : Type 0
+ProductOfTerms = Monomial → ℤ → Monomial → ℤ → WholePolynomial
+
+terms_commute : ◌≡◌ {A = ProductOfTerms} (λ m a n b. term (m · n) (a *ℤ b)) (λ m a n b. term (n · m) (b *ℤ a))
+terms_commute = fun_ext (λ m. fun_ext (λ a. fun_ext (λ n. fun_ext (λ b. ap₂ term (·_comm m n) (*ℤ_comm a b)))))
+
 pub *ᴾ_comm : (p q : WholePolynomial) → p *ᴾ q ≡ q *ᴾ p
 unfolding ◌*ᴾ◌
 *ᴾ_comm p q =
-    ap (λ F. over_terms (λ m a. over_terms (F m a) q) p) (fun_ext (λ m. fun_ext (λ a. fun_ext (λ n. fun_ext (λ b. ap₂ term (·_comm m n) (*ℤ_comm a b))))))
+    ap (λ (F : ProductOfTerms). over_terms (λ m a. over_terms (F m a) q) p) terms_commute
     ∙ sum_of_entries-swap polynomials (λ m a n b. term (n · m) (b *ℤ a)) p.list q.list
 
 pub +ᴾ-*ᴾ : (p q r : WholePolynomial) → (p +ᴾ q) *ᴾ r ≡ p *ᴾ r +ᴾ q *ᴾ r

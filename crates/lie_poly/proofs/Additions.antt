@@ -10,7 +10,7 @@ use Rattle.lie_ring.specs.Entries.{entries}
 use Rattle.lie_ring.specs.Firsts.{first_cmp}
 use Rattle.lie_poly.specs.declared.tally.Tally.{Tally}
 use Rattle.lie_poly.specs.Sorted.{IsSorted}
-use Rattle.lie_poly.specs.Tallies.{sums, sizes, sum_of, bulk_of, IsTallied, Tells, IsTold, firsts, with_term, without_zeros}
+use Rattle.lie_poly.specs.Tallies.{sums, bulks, sum_of, bulk_of, IsTallied, Tells, IsTold, firsts, with_term, without_zeros}
 use Rattle.lie_poly.proofs.BulkLists.{bulk_absolutes}
 use Rattle.lie_poly.proofs.DerivativeSteps.{within_absolutes}
 use Rattle.lie_poly.proofs.MergeSteps.{State, state_start, state_less, full_less, state_greater, full_greater, wide_equal, state_equal, full_equal, state_end}
@@ -26,7 +26,7 @@ term_order x y = monomial_cmp x.0 y.0
 module _ {C : Type 0} (value : C → ℤ) where
   -- a term as a tally
   abbrev pub tally_of : Monomial × C → Tally C
-  tally_of e = record { mono = e.0; sum = e.1; size = unsigned_abs (value e.1) }
+  tally_of e = record { mono = e.0; sum = e.1; bulk = unsigned_abs (value e.1) }
 
   abbrev pub tallies_of : List (Monomial × C) → List (Tally C)
   tallies_of [] = []
@@ -36,9 +36,9 @@ module _ {C : Type 0} (value : C → ℤ) where
   sums_tallies [] = refl
   sums_tallies (e ∷ es) = ap (λ fs. (e.0, value e.1) ∷ fs) (sums_tallies es)
 
-  sizes_tallies : (es : List (Monomial × C)) → sizes (tallies_of es) ≡ absolutes (entries value es)
-  sizes_tallies [] = refl
-  sizes_tallies (e ∷ es) = ap (λ fs. (e.0, pos (unsigned_abs (value e.1))) ∷ fs) (sizes_tallies es)
+  bulks_tallies : (es : List (Monomial × C)) → bulks (tallies_of es) ≡ absolutes (entries value es)
+  bulks_tallies [] = refl
+  bulks_tallies (e ∷ es) = ap (λ fs. (e.0, pos (unsigned_abs (value e.1))) ∷ fs) (bulks_tallies es)
 
   length_tallies : (es : List (Monomial × C)) → length (tallies_of es) ≡ length es
   length_tallies [] = refl
@@ -46,9 +46,9 @@ module _ {C : Type 0} (value : C → ℤ) where
 
   tallied : (es : List (Monomial × C)) → IsSorted (entries value es) → IsTallied value (tallies_of es)
   tallied es h = record {
-    ordered = subst (λ fs. Rattle.lie_poly.specs.Sorted.IsInPrintOrder fs) (sym (sizes_tallies es)) (canonical_absolutes (entries value es) h.ordered);
-    bulk = subst₂ Rattle.lie_poly.specs.Bulk.IsBulkOf (sym (sums_tallies es)) (sym (sizes_tallies es)) (bulk_absolutes (entries value es));
-    within = subst Rattle.lie_poly.specs.Bulk.AreWithin (sym (sizes_tallies es)) (within_absolutes (entries value es) h.within);
+    ordered = subst (λ fs. Rattle.lie_poly.specs.Sorted.IsInPrintOrder fs) (sym (bulks_tallies es)) (canonical_absolutes (entries value es) h.ordered);
+    bulk = subst₂ Rattle.lie_poly.specs.Bulk.IsBulkOf (sym (sums_tallies es)) (sym (bulks_tallies es)) (bulk_absolutes (entries value es));
+    within = subst Rattle.lie_poly.specs.Bulk.AreWithin (sym (bulks_tallies es)) (within_absolutes (entries value es) h.within);
     few = let n : length (entries value es) ≤ 1000000 = h.few in omega (arith, length_tallies es, length-entries value es);
   }
 
@@ -79,7 +79,7 @@ module _ {C : Type 0} (value : C → ℤ) where
   sum_bulk left right = polynomial_of (absolutes (entries value left)) +ᴾ polynomial_of (absolutes (entries value right))
 
   bulk_is : (left right : List (Monomial × C)) → bulk_of (tallies_of left) +ᴾ bulk_of (tallies_of right) ≡ sum_bulk left right
-  bulk_is left right = ap₂ (λ es fs. polynomial_of es +ᴾ polynomial_of fs) (sizes_tallies left) (sizes_tallies right)
+  bulk_is left right = ap₂ (λ es fs. polynomial_of es +ᴾ polynomial_of fs) (bulks_tallies left) (bulks_tallies right)
 
   module _ (left right : List (Monomial × C)) (i j : ℕ) (out : List (Monomial × C)) (count : ℕ) (h : AddedSoFar left right i j out count) where
     module _ (x : Monomial × C) (lt : i < length left) (is : x ≡ get_or left i x) (e : Less ≡ first_cmp term_order (drop i left) (drop j right)) where
@@ -134,7 +134,7 @@ module _ {C : Type 0} (value : C → ℤ) where
 
       module _ (t : Monomial × C) (em : t.0 ≡ x.0) (ev : value t.1 ≡ value x.1 +ℤ value y.1) (fits : unsigned_abs (value x.1) + unsigned_abs (value y.1) < 2 ^ 127) where
         abbrev pub both_tally : Tally C
-        both_tally = record { mono = t.0; sum = t.1; size = unsigned_abs (value x.1) + unsigned_abs (value y.1) }
+        both_tally = record { mono = t.0; sum = t.1; bulk = unsigned_abs (value x.1) + unsigned_abs (value y.1) }
 
         pub added_equal : (new : List (Monomial × C)) (k : ℕ) → entries value new ≡ entries value out ++ with_term t.0 (value t.1) [] → k ≡ count + 1 → count < 1000000 → AddedSoFar left right (i + 1) (j + 1) new k
         added_equal new k en ek room = (

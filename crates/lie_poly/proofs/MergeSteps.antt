@@ -23,9 +23,9 @@ use Rattle.lie_ring.specs.declared.failures.PolyFail.{PolyFail}
 use Rattle.lie_ring.specs.declared.failures.PolyFail.TheVariants.{Past, NoMemory}
 use Rattle.lie_ring.specs.Causes.{IsCause}
 use Rattle.lie_poly.specs.declared.tally.Tally.{Tally}
-use Rattle.lie_poly.specs.Tallies.{sums, sizes, sum_of, bulk_of, IsTallied, Tells, firsts}
+use Rattle.lie_poly.specs.Tallies.{sums, bulks, sum_of, bulk_of, IsTallied, Tells, firsts}
 use Rattle.lie_poly.specs.Failures.{IsFull, IsWide, IsWideNumber}
-use Rattle.lie_poly.proofs.TallyLists.{sums-append, sizes-append, length-sizes, tallied_nonneg}
+use Rattle.lie_poly.proofs.TallyLists.{sums-append, bulks-append, length-bulks, tallied_nonneg}
 
 bulk_append : (xs ys fs gs : List (Monomial × ℤ)) → IsBulkOf xs fs → IsBulkOf ys gs → IsBulkOf (xs ++ ys) (fs ++ gs)
 bulk_append [] ys [] gs h k = k
@@ -46,18 +46,18 @@ greater_sum o y l ys = simp (finite_laws.plus_assoc terms, left_comm (finite_law
 equal_sum : (o x xs y ys : WholePolynomial) → (o +ᴾ (x +ᴾ y)) +ᴾ (xs +ᴾ ys) ≡ o +ᴾ ((x +ᴾ xs) +ᴾ (y +ᴾ ys))
 equal_sum o x xs y ys = simp (finite_laws.plus_assoc terms, left_comm (finite_laws.adder terms))
 
-head_coefficient : {C : Type 0} (x : Tally C) (xs : List (Tally C)) → IsCanonical terms (sizes (x ∷ xs)) → coefficient (bulk_of (x ∷ xs)) x.mono ≡ pos x.size
+head_coefficient : {C : Type 0} (x : Tally C) (xs : List (Tally C)) → IsCanonical terms (bulks (x ∷ xs)) → coefficient (bulk_of (x ∷ xs)) x.mono ≡ pos x.bulk
 head_coefficient x xs h =
-    finite_laws.value-of terms (sizes (x ∷ xs)) x.mono
-    ∙ value_at-head monomial_cmp coefficients monomial_cmp_total monomial_cmp-IsAntisymmetric (x.mono, pos x.size) (sizes xs) (canonical_below terms (x.mono, pos x.size) (sizes xs) h)
+    finite_laws.value-of terms (bulks (x ∷ xs)) x.mono
+    ∙ value_at-head monomial_cmp coefficients monomial_cmp_total monomial_cmp-IsAntisymmetric (x.mono, pos x.bulk) (bulks xs) (canonical_below terms (x.mono, pos x.bulk) (bulks xs) h)
 
 module _ {C : Type 0} (value : C → ℤ) where
   -- what is out, what is left of the two lists, and the two lists at the start
   pub record State (out l r us vs : List (Tally C)) : Type 0 where
-    pub merging : Merging terms (sizes out) (sizes l) (sizes r) (sizes us) (sizes vs)
+    pub merging : Merging terms (bulks out) (bulks l) (bulks r) (bulks us) (bulks vs)
     pub sum : sum_of value out +ᴾ (sum_of value l +ᴾ sum_of value r) ≡ sum_of value us +ᴾ sum_of value vs
-    pub out_bulk : IsBulkOf (sums value out) (sizes out)
-    pub out_within : AreWithin (sizes out)
+    pub out_bulk : IsBulkOf (sums value out) (bulks out)
+    pub out_within : AreWithin (bulks out)
     pub left : IsTallied value l
     pub right : IsTallied value r
     pub few : length out ≤ 1000000
@@ -68,7 +68,7 @@ module _ {C : Type 0} (value : C → ℤ) where
   pub state_start : (us vs : List (Tally C)) → IsTallied value us → IsTallied value vs → State [] us vs us vs
   unfolding finite.none
   state_start us vs h k = record {
-    merging = merging_start terms (sizes us) (sizes vs) h.ordered k.ordered;
+    merging = merging_start terms (bulks us) (bulks vs) h.ordered k.ordered;
     sum = finite_laws.plus_idl terms (sum_of value us +ᴾ sum_of value vs);
     out_bulk = tt;
     out_within = tt;
@@ -79,7 +79,7 @@ module _ {C : Type 0} (value : C → ℤ) where
 
   tail : (x : Tally C) (xs : List (Tally C)) → IsTallied value (x ∷ xs) → IsTallied value xs
   tail x xs h = record {
-    ordered = canonical_tail terms (x.mono, pos x.size) (sizes xs) h.ordered;
+    ordered = canonical_tail terms (x.mono, pos x.bulk) (bulks xs) h.ordered;
     bulk = h.bulk.3;
     within = h.within.2;
     few = let n : suc (length xs) ≤ 1000000 = h.few in omega arith;
@@ -92,38 +92,38 @@ module _ {C : Type 0} (value : C → ℤ) where
   cons : (x : Tally C) (xs : List (Tally C)) → sum_of value (x ∷ xs) ≡ sum_of value (x ∷ []) +ᴾ sum_of value xs
   cons x xs = of-cons terms (x.mono, value x.sum) (sums value xs)
 
-  sizes_snoc : (out : List (Tally C)) (x : Tally C) → sizes (out ++ x ∷ []) ≡ sizes out ++ (x.mono, pos x.size) ∷ []
-  sizes_snoc out x = sizes-append value out (x ∷ [])
+  bulks_snoc : (out : List (Tally C)) (x : Tally C) → bulks (out ++ x ∷ []) ≡ bulks out ++ (x.mono, pos x.bulk) ∷ []
+  bulks_snoc out x = bulks-append value out (x ∷ [])
 
-  firsts_are : (xs ys : List (Tally C)) → firsts xs ys ≡ first_cmp (λ (a : Monomial × ℤ) (b : Monomial × ℤ). monomial_cmp a.0 b.0) (sizes xs) (sizes ys)
+  firsts_are : (xs ys : List (Tally C)) → firsts xs ys ≡ first_cmp (λ (a : Monomial × ℤ) (b : Monomial × ℤ). monomial_cmp a.0 b.0) (bulks xs) (bulks ys)
   firsts_are [] ys = refl
   firsts_are (x ∷ xs) [] = refl
   firsts_are (x ∷ xs) (y ∷ ys) = refl
 
   -- more than the limit is out already
-  many : (out l r us vs : List (Tally C)) → Merging terms (sizes out) (sizes l) (sizes r) (sizes us) (sizes vs) → IsBulkOf (sums value out) (sizes out) → IsBulkOf (sums value l) (sizes l) → IsBulkOf (sums value r) (sizes r) → 1000000 < length out → HasManyTerms (both_bulk us vs)
+  many : (out l r us vs : List (Tally C)) → Merging terms (bulks out) (bulks l) (bulks r) (bulks us) (bulks vs) → IsBulkOf (sums value out) (bulks out) → IsBulkOf (sums value l) (bulks l) → IsBulkOf (sums value r) (bulks r) → 1000000 < length out → HasManyTerms (both_bulk us vs)
   many out l r us vs m ob lb rb n =
-      let listed : (bulk_of out).list ≡ sizes out = finite_laws.list-of terms (sizes out) (canonical_front terms (sizes out) (sizes l) m.left) in
-      let here : HasManyTerms (bulk_of out) = subst (λ es. 1000000 < length es) (sym listed) (subst (λ k. 1000000 < k) (sym (length-sizes value out)) n) in
+      let listed : (bulk_of out).list ≡ bulks out = finite_laws.list-of terms (bulks out) (canonical_front terms (bulks out) (bulks l) m.left) in
+      let here : HasManyTerms (bulk_of out) = subst (λ es. 1000000 < length es) (sym listed) (subst (λ k. 1000000 < k) (sym (length-bulks value out)) n) in
       subst HasManyTerms m.sum
       (many_covered (bulk_of out) (bulk_of out +ᴾ (bulk_of l +ᴾ bulk_of r))
       (covered_first (bulk_of out) (bulk_of l +ᴾ bulk_of r) (tallied_nonneg value out ob) (nonneg_sum (bulk_of l) (bulk_of r) (tallied_nonneg value l lb) (tallied_nonneg value r rb)))
       here)
 
-  bulk_snoc : (out : List (Tally C)) (x : Tally C) → IsBulkOf (sums value out) (sizes out) → unsigned_abs (value x.sum) ≤ x.size → IsBulkOf (sums value (out ++ x ∷ [])) (sizes (out ++ x ∷ []))
+  bulk_snoc : (out : List (Tally C)) (x : Tally C) → IsBulkOf (sums value out) (bulks out) → unsigned_abs (value x.sum) ≤ x.bulk → IsBulkOf (sums value (out ++ x ∷ [])) (bulks (out ++ x ∷ []))
   bulk_snoc out x h k =
-      subst (λ es. IsBulkOf es (sizes (out ++ x ∷ []))) (sym (sums-append value out (x ∷ []))) (subst (IsBulkOf (sums value out ++ sums value (x ∷ []))) (sym (sizes_snoc out x)) (bulk_append (sums value out) (sums value (x ∷ [])) (sizes out) (sizes (x ∷ [])) h (refl, k, refl, tt)))
+      subst (λ es. IsBulkOf es (bulks (out ++ x ∷ []))) (sym (sums-append value out (x ∷ []))) (subst (IsBulkOf (sums value out ++ sums value (x ∷ []))) (sym (bulks_snoc out x)) (bulk_append (sums value out) (sums value (x ∷ [])) (bulks out) (bulks (x ∷ [])) h (refl, k, refl, tt)))
 
-  within_snoc : (out : List (Tally C)) (x : Tally C) → AreWithin (sizes out) → AreWithin (sizes (x ∷ [])) → AreWithin (sizes (out ++ x ∷ []))
-  within_snoc out x h k = subst AreWithin (sym (sizes_snoc out x)) (within_append (sizes out) (sizes (x ∷ [])) h k)
+  within_snoc : (out : List (Tally C)) (x : Tally C) → AreWithin (bulks out) → AreWithin (bulks (x ∷ [])) → AreWithin (bulks (out ++ x ∷ []))
+  within_snoc out x h k = subst AreWithin (sym (bulks_snoc out x)) (within_append (bulks out) (bulks (x ∷ [])) h k)
 
   module _ (out xs r us vs : List (Tally C)) (x : Tally C) (s : State out (x ∷ xs) r us vs) (e : Less ≡ firsts (x ∷ xs) r) where
-    next_less : Merging terms (sizes (out ++ x ∷ [])) (sizes xs) (sizes r) (sizes us) (sizes vs)
+    next_less : Merging terms (bulks (out ++ x ∷ [])) (bulks xs) (bulks r) (bulks us) (bulks vs)
     next_less =
-        subst (λ o. Merging terms o (sizes xs) (sizes r) (sizes us) (sizes vs)) (sym (sizes_snoc out x))
-        (merging_less terms (sizes out) (sizes xs) (sizes r) (sizes us) (sizes vs) (x.mono, pos x.size) (sym (e ∙ firsts_are (x ∷ xs) r)) s.merging)
+        subst (λ o. Merging terms o (bulks xs) (bulks r) (bulks us) (bulks vs)) (sym (bulks_snoc out x))
+        (merging_less terms (bulks out) (bulks xs) (bulks r) (bulks us) (bulks vs) (x.mono, pos x.bulk) (sym (e ∙ firsts_are (x ∷ xs) r)) s.merging)
 
-    out_less : IsBulkOf (sums value (out ++ x ∷ [])) (sizes (out ++ x ∷ []))
+    out_less : IsBulkOf (sums value (out ++ x ∷ [])) (bulks (out ++ x ∷ []))
     out_less = bulk_snoc out x s.out_bulk s.left.bulk.1
 
     pub state_less : length out < 1000000 → State (out ++ x ∷ []) xs r us vs
@@ -142,12 +142,12 @@ module _ {C : Type 0} (value : C → ℤ) where
     full_less n = many (out ++ x ∷ []) xs r us vs next_less out_less s.left.bulk.3 s.right.bulk (omega (arith, length_push out x))
 
   module _ (out l ys us vs : List (Tally C)) (y : Tally C) (s : State out l (y ∷ ys) us vs) (e : Greater ≡ firsts l (y ∷ ys)) where
-    next_greater : Merging terms (sizes (out ++ y ∷ [])) (sizes l) (sizes ys) (sizes us) (sizes vs)
+    next_greater : Merging terms (bulks (out ++ y ∷ [])) (bulks l) (bulks ys) (bulks us) (bulks vs)
     next_greater =
-        subst (λ o. Merging terms o (sizes l) (sizes ys) (sizes us) (sizes vs)) (sym (sizes_snoc out y))
-        (merging_greater terms (sizes out) (sizes l) (sizes ys) (sizes us) (sizes vs) (y.mono, pos y.size) (sym (e ∙ firsts_are l (y ∷ ys))) s.merging)
+        subst (λ o. Merging terms o (bulks l) (bulks ys) (bulks us) (bulks vs)) (sym (bulks_snoc out y))
+        (merging_greater terms (bulks out) (bulks l) (bulks ys) (bulks us) (bulks vs) (y.mono, pos y.bulk) (sym (e ∙ firsts_are l (y ∷ ys))) s.merging)
 
-    out_greater : IsBulkOf (sums value (out ++ y ∷ [])) (sizes (out ++ y ∷ []))
+    out_greater : IsBulkOf (sums value (out ++ y ∷ [])) (bulks (out ++ y ∷ []))
     out_greater = bulk_snoc out y s.out_bulk s.right.bulk.1
 
     pub state_greater : length out < 1000000 → State (out ++ y ∷ []) l ys us vs
@@ -166,8 +166,8 @@ module _ {C : Type 0} (value : C → ℤ) where
     full_greater n = many (out ++ y ∷ []) l ys us vs next_greater out_greater s.left.bulk s.right.bulk.3 (omega (arith, length_push out y))
 
   module _ (out xs ys us vs : List (Tally C)) (x y : Tally C) (s : State out (x ∷ xs) (y ∷ ys) us vs) (e : Equal ≡ firsts (x ∷ xs) (y ∷ ys)) where
-    -- the coefficient of the bulk at the monomial is at least the two sizes
-    pub wide_equal : 2 ^ 127 ≤ x.size + y.size → HasWideCoefficient (both_bulk us vs)
+    -- the coefficient of the bulk at the monomial is at least the two bulks
+    pub wide_equal : 2 ^ 127 ≤ x.bulk + y.bulk → HasWideCoefficient (both_bulk us vs)
     wide_equal h =
         subst HasWideCoefficient s.merging.sum
         (wide_covered (bulk_of (x ∷ xs) +ᴾ bulk_of (y ∷ ys)) (bulk_of out +ᴾ (bulk_of (x ∷ xs) +ᴾ bulk_of (y ∷ ys)))
@@ -177,23 +177,23 @@ module _ {C : Type 0} (value : C → ℤ) where
         same : x.mono ≡ y.mono
         same = monomial_cmp-IsAntisymmetric x.mono y.mono (sym e)
 
-        at_first : coefficient (bulk_of (x ∷ xs) +ᴾ bulk_of (y ∷ ys)) x.mono ≡ pos (x.size + y.size)
+        at_first : coefficient (bulk_of (x ∷ xs) +ᴾ bulk_of (y ∷ ys)) x.mono ≡ pos (x.bulk + y.bulk)
         at_first = finite_laws.value-plus terms (bulk_of (x ∷ xs)) (bulk_of (y ∷ ys)) x.mono
             ∙ ap₂ ◌+ℤ◌ (head_coefficient x xs s.left.ordered) (ap (coefficient (bulk_of (y ∷ ys))) same ∙ head_coefficient y ys s.right.ordered)
 
-    module _ (z : Tally C) (em : z.mono ≡ x.mono) (ev : value z.sum ≡ value x.sum +ℤ value y.sum) (es : z.size ≡ x.size + y.size) (fits : x.size + y.size < 2 ^ 127) where
-      next_equal : Merging terms (sizes (out ++ z ∷ [])) (sizes xs) (sizes ys) (sizes us) (sizes vs)
+    module _ (z : Tally C) (em : z.mono ≡ x.mono) (ev : value z.sum ≡ value x.sum +ℤ value y.sum) (es : z.bulk ≡ x.bulk + y.bulk) (fits : x.bulk + y.bulk < 2 ^ 127) where
+      next_equal : Merging terms (bulks (out ++ z ∷ [])) (bulks xs) (bulks ys) (bulks us) (bulks vs)
       next_equal =
-          subst (λ o. Merging terms o (sizes xs) (sizes ys) (sizes us) (sizes vs)) (sym (sizes_snoc out z))
-          (merging_both terms (sizes out) (sizes xs) (sizes ys) (sizes us) (sizes vs) (x.mono, pos x.size) (y.mono, pos y.size) (z.mono, pos z.size) (sym e) em (ap pos es) (positive (canonical_value terms (x.mono, pos x.size) (sizes xs) s.left.ordered)) s.merging)
+          subst (λ o. Merging terms o (bulks xs) (bulks ys) (bulks us) (bulks vs)) (sym (bulks_snoc out z))
+          (merging_both terms (bulks out) (bulks xs) (bulks ys) (bulks us) (bulks vs) (x.mono, pos x.bulk) (y.mono, pos y.bulk) (z.mono, pos z.bulk) (sym e) em (ap pos es) (positive (canonical_value terms (x.mono, pos x.bulk) (bulks xs) s.left.ordered)) s.merging)
         where
-          positive : T (not (is_zero_int (pos x.size))) → T (not (is_zero_int (pos z.size)))
-          positive t = by_test (is_zero_int (pos z.size)) (λ f. let n : z.size ≡ 0 = ap unsigned_abs (int_nil (pos z.size) f) in let k : x.size ≡ 0 = omega arith in subst (λ n. T (not (is_zero_int (pos n)))) k t)
+          positive : T (not (is_zero_int (pos x.bulk))) → T (not (is_zero_int (pos z.bulk)))
+          positive t = by_test (is_zero_int (pos z.bulk)) (λ f. let n : z.bulk ≡ 0 = ap unsigned_abs (int_nil (pos z.bulk) f) in let k : x.bulk ≡ 0 = omega arith in subst (λ n. T (not (is_zero_int (pos n)))) k t)
 
-      out_equal : IsBulkOf (sums value (out ++ z ∷ [])) (sizes (out ++ z ∷ []))
+      out_equal : IsBulkOf (sums value (out ++ z ∷ [])) (bulks (out ++ z ∷ []))
       out_equal = bulk_snoc out z s.out_bulk (covers (value x.sum) (value y.sum) (value z.sum) ev s.left.bulk.1 s.right.bulk.1)
         where
-          covers : (a b c : ℤ) → c ≡ a +ℤ b → unsigned_abs a ≤ x.size → unsigned_abs b ≤ y.size → unsigned_abs c ≤ z.size
+          covers : (a b c : ℤ) → c ≡ a +ℤ b → unsigned_abs a ≤ x.bulk → unsigned_abs b ≤ y.bulk → unsigned_abs c ≤ z.bulk
           covers a b c f h k = omega (arith, ints)
 
       joined : sum_of value (z ∷ []) ≡ sum_of value (x ∷ []) +ᴾ sum_of value (y ∷ [])
@@ -206,7 +206,7 @@ module _ {C : Type 0} (value : C → ℤ) where
         sum = ap (λ o. o +ᴾ (sum_of value xs +ᴾ sum_of value ys)) (snoc out z ∙ ap (λ p. sum_of value out +ᴾ p) joined) ∙ equal_sum (sum_of value out) (sum_of value (x ∷ [])) (sum_of value xs) (sum_of value (y ∷ [])) (sum_of value ys)
             ∙ ap₂ (λ l r. sum_of value out +ᴾ (l +ᴾ r)) (sym (cons x xs)) (sym (cons y ys)) ∙ s.sum;
         out_bulk = out_equal;
-        out_within = within_snoc out z s.out_within ((let f : z.size < 2 ^ 127 = omega arith in f), subst Rattle.lie_math.specs.Limits.HasLowExponents (sym em) s.left.within.1, tt);
+        out_within = within_snoc out z s.out_within ((let f : z.bulk < 2 ^ 127 = omega arith in f), subst Rattle.lie_math.specs.Limits.HasLowExponents (sym em) s.left.within.1, tt);
         left = tail x xs s.left;
         right = tail y ys s.right;
         few = omega (arith, length_push out z);
@@ -218,7 +218,7 @@ module _ {C : Type 0} (value : C → ℤ) where
   pub state_end : (out us vs : List (Tally C)) → State out [] [] us vs → Tells value out (sum_of value us +ᴾ sum_of value vs) (both_bulk us vs)
   unfolding finite.none
   state_end out us vs s =
-      let done = merging_done terms (sizes out) (sizes us) (sizes vs) s.merging in
+      let done = merging_done terms (bulks out) (bulks us) (bulks vs) s.merging in
       record {
         tallied = record { ordered = done.0; bulk = s.out_bulk; within = s.out_within; few = s.few };
         sum = sym (ap (λ p. sum_of value out +ᴾ p) (finite_laws.plus_idl terms 0ᴾ) ∙ Rattle.lie_math.specs.Canonical.idr (finite_laws.adder terms) (sum_of value out)) ∙ s.sum;

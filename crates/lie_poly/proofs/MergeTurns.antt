@@ -47,10 +47,10 @@ module _ {C : Type 0} (value : C → ℤ) (out ls rs us vs : List (Tally C)) (s 
     order_both : Equal ≡ firsts (x ∷ reverse lrest) (y ∷ reverse rrest)
     order_both = e ∙ ap₂ firsts (ap reverse lcut ∙ reverse_snoc lrest x) (ap reverse rcut ∙ reverse_snoc rrest y)
 
-    pub stop_wide : 2 ^ 127 ≤ x.size + y.size → HasWideCoefficient (bulk_of us +ᴾ bulk_of vs)
+    pub stop_wide : 2 ^ 127 ≤ x.bulk + y.bulk → HasWideCoefficient (bulk_of us +ᴾ bulk_of vs)
     stop_wide = wide_equal value out (reverse lrest) (reverse rrest) us vs x y opened_both order_both
 
-    module _ (z : Tally C) (em : z.mono ≡ x.mono) (ev : value z.sum ≡ value x.sum +ℤ value y.sum) (es : z.size ≡ x.size + y.size) (fits : x.size + y.size < 2 ^ 127) where
+    module _ (z : Tally C) (em : z.mono ≡ x.mono) (ev : value z.sum ≡ value x.sum +ℤ value y.sum) (es : z.bulk ≡ x.bulk + y.bulk) (fits : x.bulk + y.bulk < 2 ^ 127) where
       pub turn_equal : (new : List (Tally C)) → new ≡ out ++ z ∷ [] → length out < 1000000 → State value new (reverse lrest) (reverse rrest) us vs
       turn_equal new p n = subst (λ o. State value o (reverse lrest) (reverse rrest) us vs) (sym p) (state_equal value out (reverse lrest) (reverse rrest) us vs x y opened_both order_both z em ev es fits n)
 

@@ -77,11 +77,11 @@ module _ {C : Type 0} (value : C → ℤ) where
 
   module _ (factor : ℕ × C) (terms : List (ℕ × C)) (k : ℕ) (out : List (Packed C)) (h : MultipliedSoFar factor terms k out) where
     pub packed_more : (x : ℕ × C) (r : Packed C) (new : List (Packed C)) → k < length terms → x ≡ get_or terms k x
-        → r.word ≡ factor.0 + x.0 → value r.sum ≡ value factor.1 *ℤ value x.1 → r.size ≡ unsigned_abs (value factor.1 *ℤ value x.1) → FitsNumber (value factor.1 *ℤ value x.1) → new ≡ out ++ r ∷ [] → MultipliedSoFar factor terms (k + 1) new
+        → r.word ≡ factor.0 + x.0 → value r.sum ≡ value factor.1 *ℤ value x.1 → r.bulk ≡ unsigned_abs (value factor.1 *ℤ value x.1) → FitsNumber (value factor.1 *ℤ value x.1) → new ≡ out ++ r ∷ [] → MultipliedSoFar factor terms (k + 1) new
     packed_more x r new lt is ew ev es fits en base vs p q e fs f w v ar =
         let prior = h base vs p q e fs f w v ar in
         let o : Found base vs q x k fs = find base vs q terms fs k x lt is ar in
-        let t : Tally C = record { mono = e.0 · o.found.0; sum = r.sum; size = r.size } in
+        let t : Tally C = record { mono = e.0 · o.found.0; sum = r.sum; bulk = r.bulk } in
         let both : value factor.1 *ℤ value x.1 ≡ value e.1 *ℤ value o.found.1 = ap₂ ◌*ℤ◌ v o.number in
         let word : IsWord base vs (p + q) (e.0 · o.found.0) (factor.0 + x.0) = word-· base vs p q e.0 o.found.0 factor.0 x.0 w o.word in (
           prior.0 ++ t ∷ [],

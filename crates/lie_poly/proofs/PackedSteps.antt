@@ -76,7 +76,7 @@ module _ {C : Type 0} (value : C → ℤ) where
     tallies_drop (suc i) (x ∷ xs) [] h = absurd h
     tallies_drop (suc i) (x ∷ xs) (t ∷ ts) h = tallies_drop i xs ts h.3
 
-    pub tallies_snoc : (xs : List (Packed C)) (ts : List (Tally C)) (x : Packed C) (t : Tally C) → AreTallies value base vs most xs ts → IsWord base vs most t.mono x.word → value x.sum ≡ value t.sum → x.size ≡ t.size → AreTallies value base vs most (xs ++ x ∷ []) (ts ++ t ∷ [])
+    pub tallies_snoc : (xs : List (Packed C)) (ts : List (Tally C)) (x : Packed C) (t : Tally C) → AreTallies value base vs most xs ts → IsWord base vs most t.mono x.word → value x.sum ≡ value t.sum → x.bulk ≡ t.bulk → AreTallies value base vs most (xs ++ x ∷ []) (ts ++ t ∷ [])
     tallies_snoc [] [] x t h w v s = (w, v, s, tt)
     tallies_snoc [] (u ∷ ts) x t h w v s = absurd h
     tallies_snoc (y ∷ xs) [] x t h w v s = absurd h
@@ -98,11 +98,11 @@ module _ {C : Type 0} (value : C → ℤ) where
       is : ls ≡ tally ∷ rest
       word : IsWord base vs most tally.mono x.word
       sum : value x.sum ≡ value tally.sum
-      size : x.size ≡ tally.size
+      bulk : x.bulk ≡ tally.bulk
 
     opened : (x : Packed C) (xs : List (Packed C)) (ls : List (Tally C)) → AreTallies value base vs most (x ∷ xs) ls → Opened x ls
     opened x xs [] h = absurd h
-    opened x xs (t ∷ ls) h = record { tally = t; rest = ls; is = refl; word = h.0; sum = h.1; size = h.2 }
+    opened x xs (t ∷ ls) h = record { tally = t; rest = ls; is = refl; word = h.0; sum = h.1; bulk = h.2 }
 
     at_item : (left : List (Packed C)) (i : ℕ) (x : Packed C) (ls : List (Tally C)) → i < length left → x ≡ get_or left i x → AreTallies value base vs most left ls → Opened x (drop i ls)
     at_item left i x ls lt e h = opened x (drop (i + 1) left) (drop i ls) (subst (λ xs. AreTallies value base vs most xs (drop i ls)) (cut_item left i x lt e) (tallies_drop i left ls h))
@@ -117,48 +117,48 @@ module _ {C : Type 0} (value : C → ℤ) where
 
   module _ (left right : List (Packed C)) (i j : ℕ) (out : List (Packed C)) (h : MergedSoFar left right i j out) where
     pub merged_less : (x p : Packed C) (new : List (Packed C)) → i < length left → x ≡ get_or left i x → Less ≡ first_cmp word_order (drop i left) (drop j right)
-        → p.word ≡ x.word → value p.sum ≡ value x.sum → p.size ≡ x.size → new ≡ out ++ p ∷ [] → length out < 1000000 → MergedSoFar left right (i + 1) j new
+        → p.word ≡ x.word → value p.sum ≡ value x.sum → p.bulk ≡ x.bulk → new ≡ out ++ p ∷ [] → length out < 1000000 → MergedSoFar left right (i + 1) j new
     merged_less x p new lt is e ew ev es en room base vs most ls rs f l r ltal rtal =
         let prior = h base vs most ls rs f l r ltal rtal in
         let ts : List (Tally C) = prior.0 in
         let o : Opened base vs most x (drop i ls) = at_item base vs most left i x ls lt is l in
         let order : Less ≡ firsts (drop i ls) (drop j rs) = e ∙ same_order base vs most f (drop i left) (drop j right) (drop i ls) (drop j rs) (tallies_drop base vs most i left ls l) (tallies_drop base vs most j right rs r) in (
           ts ++ o.tally ∷ [],
-          subst (λ ys. AreTallies value base vs most ys (ts ++ o.tally ∷ [])) (sym en) (tallies_snoc base vs most out ts p o.tally prior.1 (subst (IsWord base vs most o.tally.mono) (sym ew) o.word) (ev ∙ o.sum) (es ∙ o.size)),
+          subst (λ ys. AreTallies value base vs most ys (ts ++ o.tally ∷ [])) (sym en) (tallies_snoc base vs most out ts p o.tally prior.1 (subst (IsWord base vs most o.tally.mono) (sym ew) o.word) (ev ∙ o.sum) (es ∙ o.bulk)),
           subst (λ k. State value (ts ++ o.tally ∷ []) k (drop j rs) ls rs) (next_is ls i o.tally o.rest o.is)
               (state_less value ts o.rest (drop j rs) ls rs o.tally (subst (λ k. State value ts k (drop j rs) ls rs) o.is prior.2) (subst (λ k. Less ≡ firsts k (drop j rs)) o.is order)
               (subst (λ n. n < 1000000) (tallies_length base vs most out ts prior.1) room)),
         )
 
     pub merged_greater : (y p : Packed C) (new : List (Packed C)) → j < length right → y ≡ get_or right j y → Greater ≡ first_cmp word_order (drop i left) (drop j right)
-        → p.word ≡ y.word → value p.sum ≡ value y.sum → p.size ≡ y.size → new ≡ out ++ p ∷ [] → length out < 1000000 → MergedSoFar left right i (j + 1) new
+        → p.word ≡ y.word → value p.sum ≡ value y.sum → p.bulk ≡ y.bulk → new ≡ out ++ p ∷ [] → length out < 1000000 → MergedSoFar left right i (j + 1) new
     merged_greater y p new lt is e ew ev es en room base vs most ls rs f l r ltal rtal =
         let prior = h base vs most ls rs f l r ltal rtal in
         let ts : List (Tally C) = prior.0 in
         let o : Opened base vs most y (drop j rs) = at_item base vs most right j y rs lt is r in
         let order : Greater ≡ firsts (drop i ls) (drop j rs) = e ∙ same_order base vs most f (drop i left) (drop j right) (drop i ls) (drop j rs) (tallies_drop base vs most i left ls l) (tallies_drop base vs most j right rs r) in (
           ts ++ o.tally ∷ [],
-          subst (λ ys. AreTallies value base vs most ys (ts ++ o.tally ∷ [])) (sym en) (tallies_snoc base vs most out ts p o.tally prior.1 (subst (IsWord base vs most o.tally.mono) (sym ew) o.word) (ev ∙ o.sum) (es ∙ o.size)),
+          subst (λ ys. AreTallies value base vs most ys (ts ++ o.tally ∷ [])) (sym en) (tallies_snoc base vs most out ts p o.tally prior.1 (subst (IsWord base vs most o.tally.mono) (sym ew) o.word) (ev ∙ o.sum) (es ∙ o.bulk)),
           subst (λ k. State value (ts ++ o.tally ∷ []) (drop i ls) k ls rs) (next_is rs j o.tally o.rest o.is)
               (state_greater value ts (drop i ls) o.rest ls rs o.tally (subst (λ k. State value ts (drop i ls) k ls rs) o.is prior.2) (subst (λ k. Greater ≡ firsts (drop i ls) k) o.is order)
               (subst (λ n. n < 1000000) (tallies_length base vs most out ts prior.1) room)),
         )
 
     pub merged_equal : (x y p : Packed C) (new : List (Packed C)) → i < length left → j < length right → x ≡ get_or left i x → y ≡ get_or right j y → Equal ≡ first_cmp word_order (drop i left) (drop j right)
-        → p.word ≡ x.word → value p.sum ≡ value x.sum +ℤ value y.sum → p.size ≡ x.size + y.size → p.size < 2 ^ 127 → new ≡ out ++ p ∷ [] → length out < 1000000 → MergedSoFar left right (i + 1) (j + 1) new
+        → p.word ≡ x.word → value p.sum ≡ value x.sum +ℤ value y.sum → p.bulk ≡ x.bulk + y.bulk → p.bulk < 2 ^ 127 → new ≡ out ++ p ∷ [] → length out < 1000000 → MergedSoFar left right (i + 1) (j + 1) new
     merged_equal x y p new lt lt_right is is_right e ew ev es fits en room base vs most ls rs f l r ltal rtal =
         let prior = h base vs most ls rs f l r ltal rtal in
         let ts : List (Tally C) = prior.0 in
         let o : Opened base vs most x (drop i ls) = at_item base vs most left i x ls lt is l in
         let w : Opened base vs most y (drop j rs) = at_item base vs most right j y rs lt_right is_right r in
         let order : Equal ≡ firsts (drop i ls) (drop j rs) = e ∙ same_order base vs most f (drop i left) (drop j right) (drop i ls) (drop j rs) (tallies_drop base vs most i left ls l) (tallies_drop base vs most j right rs r) in
-        let z : Tally C = record { mono = o.tally.mono; sum = p.sum; size = p.size } in
-        let sized : p.size ≡ o.tally.size + w.tally.size = es ∙ ap₂ ◌+◌ o.size w.size in (
+        let z : Tally C = record { mono = o.tally.mono; sum = p.sum; bulk = p.bulk } in
+        let bulk_is : p.bulk ≡ o.tally.bulk + w.tally.bulk = es ∙ ap₂ ◌+◌ o.bulk w.bulk in (
           ts ++ z ∷ [],
           subst (λ ys. AreTallies value base vs most ys (ts ++ z ∷ [])) (sym en) (tallies_snoc base vs most out ts p z prior.1 (subst (IsWord base vs most o.tally.mono) (sym ew) o.word) refl refl),
           subst₂ (λ k q. State value (ts ++ z ∷ []) k q ls rs) (next_is ls i o.tally o.rest o.is) (next_is rs j w.tally w.rest w.is)
               (state_equal value ts o.rest w.rest ls rs o.tally w.tally (subst₂ (λ k q. State value ts k q ls rs) o.is w.is prior.2) (subst₂ (λ k q. Equal ≡ firsts k q) o.is w.is order)
-              z refl (ev ∙ ap₂ ◌+ℤ◌ o.sum w.sum) sized (subst (λ n. n < 2 ^ 127) sized fits)
+              z refl (ev ∙ ap₂ ◌+ℤ◌ o.sum w.sum) bulk_is (subst (λ n. n < 2 ^ 127) bulk_is fits)
               (subst (λ n. n < 1000000) (tallies_length base vs most out ts prior.1) room)),
         )
 

@@ -29,8 +29,8 @@ cause_covered (Past Unknowns) p b c h = absurd h
 cause_covered (Past Width) p b c h = absurd h
 cause_covered NoMemory p b c h = tt
 
-pub not_zero_of_size : (z : ℤ) → ¬ (unsigned_abs z ≡ 0) → ¬ (z ≡ pos 0)
-not_zero_of_size z n e = n (ap unsigned_abs e)
+pub not_zero_of_absolute : (z : ℤ) → ¬ (unsigned_abs z ≡ 0) → ¬ (z ≡ pos 0)
+not_zero_of_absolute z n e = n (ap unsigned_abs e)
 
 module _ {C : Type 0} (value : C → ℤ) where
   pub tells_same : (ts : List (Tally C)) (p q b d : WholePolynomial) → p ≡ q → b ≡ d → Tells value ts p b → Tells value ts q d

@@ -15,51 +15,51 @@ use Rattle.lie_math.proofs.Limits.{IsNonNegative, term_is}
 use Rattle.lie_poly.proofs.BulkLists.{limits_of, bulk_nonneg}
 use Rattle.lie_poly.specs.declared.tally.Tally.{Tally}
 use Rattle.lie_poly.specs.Sorted.{IsSorted}
-use Rattle.lie_poly.specs.Tallies.{sums, sizes, bulk_of, IsTallied, with_term, without_zeros}
+use Rattle.lie_poly.specs.Tallies.{sums, bulks, bulk_of, IsTallied, with_term, without_zeros}
 
 module _ {C : Type 0} (value : C → ℤ) where
   pub sums-append : (xs ys : List (Tally C)) → sums value (xs ++ ys) ≡ sums value xs ++ sums value ys
   sums-append [] ys = refl
   sums-append (x ∷ xs) ys = ap (λ es. (x.mono, value x.sum) ∷ es) (sums-append xs ys)
 
-  pub sizes-append : (xs ys : List (Tally C)) → sizes (xs ++ ys) ≡ sizes xs ++ sizes ys
-  sizes-append [] ys = refl
-  sizes-append (x ∷ xs) ys = ap (λ es. (x.mono, pos x.size) ∷ es) (sizes-append xs ys)
+  pub bulks-append : (xs ys : List (Tally C)) → bulks (xs ++ ys) ≡ bulks xs ++ bulks ys
+  bulks-append [] ys = refl
+  bulks-append (x ∷ xs) ys = ap (λ es. (x.mono, pos x.bulk) ∷ es) (bulks-append xs ys)
 
-  pub length-sizes : (xs : List (Tally C)) → length (sizes xs) ≡ length xs
-  length-sizes [] = refl
-  length-sizes (x ∷ xs) = ap suc (length-sizes xs)
+  pub length-bulks : (xs : List (Tally C)) → length (bulks xs) ≡ length xs
+  length-bulks [] = refl
+  length-bulks (x ∷ xs) = ap suc (length-bulks xs)
 
-  pub tallied_nonneg : (ts : List (Tally C)) → IsBulkOf (sums value ts) (sizes ts) → IsNonNegative (bulk_of ts)
-  tallied_nonneg ts h = bulk_nonneg (sums value ts) (sizes ts) h
+  pub tallied_nonneg : (ts : List (Tally C)) → IsBulkOf (sums value ts) (bulks ts) → IsNonNegative (bulk_of ts)
+  tallied_nonneg ts h = bulk_nonneg (sums value ts) (bulks ts) h
 
   pub tallied_limits : (ts : List (Tally C)) → IsTallied value ts → IsWithinLimits (bulk_of ts)
-  tallied_limits ts h = limits_of (sizes ts) h.ordered h.within (let n : length ts ≤ 1000000 = h.few in omega (arith, length-sizes ts))
+  tallied_limits ts h = limits_of (bulks ts) h.ordered h.within (let n : length ts ≤ 1000000 = h.few in omega (arith, length-bulks ts))
 
   -- ---- the terms that are left
 
-  below_zeros : (m : Monomial) (ts : List (Tally C)) → T (below_all monomial_cmp coefficients m (sizes ts)) → T (below_all monomial_cmp coefficients m (without_zeros (sums value ts)))
+  below_zeros : (m : Monomial) (ts : List (Tally C)) → T (below_all monomial_cmp coefficients m (bulks ts)) → T (below_all monomial_cmp coefficients m (without_zeros (sums value ts)))
   below_zeros m [] h = tt
   below_zeros m (t ∷ ts) h =
       elim (is_zero_int (value t.sum)) as (λ z. T (below_all monomial_cmp coefficients m (cond z (without_zeros (sums value ts)) ((t.mono, value t.sum) ∷ without_zeros (sums value ts))))) [
-        | true ↦ below_zeros m ts (second _ (below_all monomial_cmp coefficients m (sizes ts)) h)
-        | false ↦ both _ (below_all monomial_cmp coefficients m (without_zeros (sums value ts))) (first _ (below_all monomial_cmp coefficients m (sizes ts)) h) (below_zeros m ts (second _ (below_all monomial_cmp coefficients m (sizes ts)) h))
+        | true ↦ below_zeros m ts (second _ (below_all monomial_cmp coefficients m (bulks ts)) h)
+        | false ↦ both _ (below_all monomial_cmp coefficients m (without_zeros (sums value ts))) (first _ (below_all monomial_cmp coefficients m (bulks ts)) h) (below_zeros m ts (second _ (below_all monomial_cmp coefficients m (bulks ts)) h))
       ]
 
-  zeros_ordered : (ts : List (Tally C)) → IsCanonical terms (sizes ts) → IsCanonical terms (without_zeros (sums value ts))
+  zeros_ordered : (ts : List (Tally C)) → IsCanonical terms (bulks ts) → IsCanonical terms (without_zeros (sums value ts))
   zeros_ordered [] h = tt
-  zeros_ordered (t ∷ ts) h = by_test (zeros_ordered ts (canonical_tail terms (t.mono, pos t.size) (sizes ts) h)) (is_zero_int (value t.sum)) refl
+  zeros_ordered (t ∷ ts) h = by_test (zeros_ordered ts (canonical_tail terms (t.mono, pos t.bulk) (bulks ts) h)) (is_zero_int (value t.sum)) refl
     where
       by_test : IsCanonical terms (without_zeros (sums value ts)) → (z : Bool) → is_zero_int (value t.sum) ≡ z → IsCanonical terms (cond z (without_zeros (sums value ts)) ((t.mono, value t.sum) ∷ without_zeros (sums value ts)))
       by_test rest true e = rest
       by_test rest false e =
-          canonical_cons terms (t.mono, value t.sum) (without_zeros (sums value ts)) (subst (λ z. T (not z)) (sym e) tt) (below_zeros t.mono ts (canonical_below terms (t.mono, pos t.size) (sizes ts) h)) rest
+          canonical_cons terms (t.mono, value t.sum) (without_zeros (sums value ts)) (subst (λ z. T (not z)) (sym e) tt) (below_zeros t.mono ts (canonical_below terms (t.mono, pos t.bulk) (bulks ts) h)) rest
 
-  zeros_within : (ts : List (Tally C)) → IsBulkOf (sums value ts) (sizes ts) → AreWithin (sizes ts) → AreWithin (without_zeros (sums value ts))
+  zeros_within : (ts : List (Tally C)) → IsBulkOf (sums value ts) (bulks ts) → AreWithin (bulks ts) → AreWithin (without_zeros (sums value ts))
   zeros_within [] b h = tt
   zeros_within (t ∷ ts) b h =
       let rest : AreWithin (without_zeros (sums value ts)) = zeros_within ts b.3 h.2 in
-      let fits : FitsNumber (value t.sum) = let c : unsigned_abs (value t.sum) ≤ t.size = b.1 in let f : t.size < 2 ^ 127 = h.0 in omega arith in
+      let fits : FitsNumber (value t.sum) = let c : unsigned_abs (value t.sum) ≤ t.bulk = b.1 in let f : t.bulk < 2 ^ 127 = h.0 in omega arith in
       elim (is_zero_int (value t.sum)) as (λ z. AreWithin (cond z (without_zeros (sums value ts)) ((t.mono, value t.sum) ∷ without_zeros (sums value ts)))) [
         | true ↦ rest
         | false ↦ (fits, h.1, rest)

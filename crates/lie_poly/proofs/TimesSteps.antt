@@ -22,10 +22,10 @@ use Rattle.lie_ring.specs.Entries.{entries}
 use Rattle.lie_poly.specs.declared.tally.Tally.{Tally}
 use Rattle.lie_poly.specs.Sorted.{IsSorted}
 use Rattle.lie_poly.specs.Failures.{IsTermCause, IsFull}
-use Rattle.lie_poly.specs.Tallies.{sums, sizes, Tells}
+use Rattle.lie_poly.specs.Tallies.{sums, bulks, Tells}
 use Rattle.lie_poly.proofs.TermLists.{length-entries, get-entries}
-use Rattle.lie_poly.proofs.TallyLists.{sums-append, sizes-append, length-sizes}
-use Rattle.lie_poly.proofs.SumSteps.{cause_covered, not_zero_of_size, tells_none, tells_same, lower_half, upper_half, halves_sum, halves_bulk}
+use Rattle.lie_poly.proofs.TallyLists.{sums-append, bulks-append, length-bulks}
+use Rattle.lie_poly.proofs.SumSteps.{cause_covered, not_zero_of_absolute, tells_none, tells_same, lower_half, upper_half, halves_sum, halves_bulk}
 use Rattle.lie_poly.proofs.MergeSteps.{within_append}
 
 pub times-append : (m : Monomial) (c : ℤ) (es fs : List (Monomial × ℤ)) → times_list m c (es ++ fs) ≡ times_list m c es ++ times_list m c fs
@@ -74,23 +74,23 @@ module _ {C : Type 0} (value : C → ℤ) where
   -- the products by the first terms are out
   pub record Multiplied (m : Monomial) (c : ℤ) (es : List (Monomial × ℤ)) (out : List (Tally C)) : Type 0 where
     pub sums_are : sums value out ≡ times_list m c es
-    pub sizes_are : sizes out ≡ absolutes (times_list m c es)
-    pub within : AreWithin (sizes out)
+    pub bulks_are : bulks out ≡ absolutes (times_list m c es)
+    pub within : AreWithin (bulks out)
 
   pub multiplied_start : (m : Monomial) (c : ℤ) → Multiplied m c [] []
-  multiplied_start m c = record { sums_are = refl; sizes_are = refl; within = tt }
+  multiplied_start m c = record { sums_are = refl; bulks_are = refl; within = tt }
 
   pub multiplied_length : (m : Monomial) (c : ℤ) (es : List (Monomial × ℤ)) (out : List (Tally C)) → Multiplied m c es out → length out ≡ length es
-  multiplied_length m c es out s = sym (length-sizes value out) ∙ ap length s.sizes_are ∙ length-absolutes (times_list m c es) ∙ length-times m c es
+  multiplied_length m c es out s = sym (length-bulks value out) ∙ ap length s.bulks_are ∙ length-absolutes (times_list m c es) ∙ length-times m c es
 
   pub multiplied_more : (m : Monomial) (c : ℤ) (es : List (Monomial × ℤ)) (out new : List (Tally C)) (e : Monomial × ℤ) (t : Tally C) → Multiplied m c es out
-      → t.mono ≡ m · e.0 → value t.sum ≡ c *ℤ e.1 → t.size ≡ unsigned_abs (c *ℤ e.1) → FitsNumber (c *ℤ e.1) → HasLowExponents (m · e.0) → new ≡ out ++ t ∷ [] → Multiplied m c (es ++ e ∷ []) new
+      → t.mono ≡ m · e.0 → value t.sum ≡ c *ℤ e.1 → t.bulk ≡ unsigned_abs (c *ℤ e.1) → FitsNumber (c *ℤ e.1) → HasLowExponents (m · e.0) → new ≡ out ++ t ∷ [] → Multiplied m c (es ++ e ∷ []) new
   multiplied_more m c es out new e t s em ev ez fits low p =
-      let here : sizes (t ∷ []) ≡ absolutes (times_list m c (e ∷ [])) = ap₂ (λ k n. (k, pos n) ∷ []) em ez in
+      let here : bulks (t ∷ []) ≡ absolutes (times_list m c (e ∷ [])) = ap₂ (λ k n. (k, pos n) ∷ []) em ez in
       record {
         sums_are = ap (sums value) p ∙ sums-append value out (t ∷ []) ∙ ap₂ ◌++◌ s.sums_are (ap₂ (λ k v. (k, v) ∷ []) em ev) ∙ sym (times-append m c es (e ∷ []));
-        sizes_are = ap sizes p ∙ sizes-append value out (t ∷ []) ∙ ap₂ ◌++◌ s.sizes_are here ∙ sym (absolutes-append (times_list m c es) (times_list m c (e ∷ []))) ∙ ap absolutes (sym (times-append m c es (e ∷ [])));
-        within = subst AreWithin (sym (ap sizes p ∙ sizes-append value out (t ∷ []))) (within_append (sizes out) (sizes (t ∷ [])) s.within (subst AreWithin (sym here) (fits, low, tt)));
+        bulks_are = ap bulks p ∙ bulks-append value out (t ∷ []) ∙ ap₂ ◌++◌ s.bulks_are here ∙ sym (absolutes-append (times_list m c es) (times_list m c (e ∷ []))) ∙ ap absolutes (sym (times-append m c es (e ∷ [])));
+        within = subst AreWithin (sym (ap bulks p ∙ bulks-append value out (t ∷ []))) (within_append (bulks out) (bulks (t ∷ [])) s.within (subst AreWithin (sym here) (fits, low, tt)));
       }
 
   pub multiplied_end : (m : Monomial) (c : ℤ) (es : List (Monomial × ℤ)) (out made : List (Tally C)) → Multiplied m c es out → ¬ (unsigned_abs c ≡ 0) → IsSorted es → made ≡ reverse out → Tells value (reverse made) (term m c *ᴾ polynomial_of es) (term m (pos (unsigned_abs c)) *ᴾ polynomial_of (absolutes es))
@@ -98,13 +98,13 @@ module _ {C : Type 0} (value : C → ℤ) where
       subst (λ ts. Tells value ts (term m c *ᴾ polynomial_of es) (term m (pos (unsigned_abs c)) *ᴾ polynomial_of (absolutes es))) (sym (ap reverse e ∙ reverse-reverse out))
       (record {
         tallied = record {
-          ordered = subst (IsCanonical terms) (sym s.sizes_are) (canonical_absolutes (times_list m c es) (canonical_times m c es (not_zero_of_size c n) h.ordered));
-          bulk = subst₂ IsBulkOf (sym s.sums_are) (sym s.sizes_are) (bulk_absolutes (times_list m c es));
+          ordered = subst (IsCanonical terms) (sym s.bulks_are) (canonical_absolutes (times_list m c es) (canonical_times m c es (not_zero_of_absolute c n) h.ordered));
+          bulk = subst₂ IsBulkOf (sym s.sums_are) (sym s.bulks_are) (bulk_absolutes (times_list m c es));
           within = s.within;
           few = let k : length es ≤ 1000000 = h.few in omega (arith, multiplied_length m c es out s);
         };
         sum = ap polynomial_of s.sums_are ∙ polynomial_of-times m c es;
-        bulk = ap polynomial_of s.sizes_are ∙ times_bulk m c es;
+        bulk = ap polynomial_of s.bulks_are ∙ times_bulk m c es;
       })
 
   pub times_zero : (m : Monomial) (c : ℤ) (es : List (Monomial × ℤ)) → unsigned_abs c ≡ 0 → Tells value [] (term m c *ᴾ polynomial_of es) (term m (pos (unsigned_abs c)) *ᴾ polynomial_of (absolutes es))
@@ -121,7 +121,7 @@ module _ {C : Type 0} (value : C → ℤ) where
       let here = get-entries value xs i x e in
       term_cause fail (m · x.0) (c *ℤ value x.1) (term m (pos (unsigned_abs c)) *ᴾ polynomial_of (absolutes (entries value xs)))
       (subst (IsCovered (term (m · x.0) (pos (unsigned_abs (c *ℤ value x.1))))) (times_bulk m c (entries value xs)) (times_entry_covered m c (entries value xs) i (x.0, value x.1) inside here))
-      (λ z. entry_not_zero (entries value xs) i (x.0, value x.1) h.ordered inside here (no_zero_divisors_ℤ c (value x.1) (not_zero_of_size c n) z)) t
+      (λ z. entry_not_zero (entries value xs) i (x.0, value x.1) h.ordered inside here (no_zero_divisors_ℤ c (value x.1) (not_zero_of_absolute c n) z)) t
 
   -- ---- a product by halves
 

@@ -11,11 +11,11 @@ IsFull (Past Terms) n = 1000000 ≤ n
 IsFull (Past kind) n = ⊥
 IsFull NoMemory n = Unit {0}
 
--- since the size is past the limit
+-- since the bulk is past the limit
 abbrev pub IsWide : PolyFail → ℕ → Type 0
-IsWide (Past Coefficient) size = 2 ^ 127 ≤ size
-IsWide (Past kind) size = ⊥
-IsWide NoMemory size = ⊥
+IsWide (Past Coefficient) bulk = 2 ^ 127 ≤ bulk
+IsWide (Past kind) bulk = ⊥
+IsWide NoMemory bulk = ⊥
 
 -- for want of memory, or since the term with this monomial and coefficient is past a limit
 abbrev pub IsTermCause : PolyFail → Monomial → ℤ → Type 0

@@ -29,7 +29,7 @@ module _ {C : Type 0} (value : C → ℤ) (base : ℕ) (vs : List ℕ) (most : �
   AreTallies [] [] = Unit {0}
   AreTallies [] (t ∷ ts) = ⊥
   AreTallies (x ∷ xs) [] = ⊥
-  AreTallies (x ∷ xs) (t ∷ ts) = IsWord base vs most t.mono x.word × (value x.sum ≡ value t.sum) × (x.size ≡ t.size) × AreTallies xs ts
+  AreTallies (x ∷ xs) (t ∷ ts) = IsWord base vs most t.mono x.word × (value x.sum ≡ value t.sum) × (x.bulk ≡ t.bulk) × AreTallies xs ts
 
 module _ {C : Type 0} (value : C → ℤ) where
   -- the sum of two lists of packed sums, whatever tallies they stand for

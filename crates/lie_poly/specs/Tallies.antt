@@ -16,21 +16,21 @@ sums value [] = []
 sums value (t ∷ ts) = (t.mono, value t.sum) ∷ sums value ts
 
 -- the monomials with the sums of the absolute values
-abbrev pub sizes : {C : Type 0} → List (Tally C) → List (Monomial × ℤ)
-sizes [] = []
-sizes (t ∷ ts) = (t.mono, pos t.size) ∷ sizes ts
+abbrev pub bulks : {C : Type 0} → List (Tally C) → List (Monomial × ℤ)
+bulks [] = []
+bulks (t ∷ ts) = (t.mono, pos t.bulk) ∷ bulks ts
 
 abbrev pub sum_of : {C : Type 0} → (C → ℤ) → List (Tally C) → WholePolynomial
 sum_of value ts = polynomial_of (sums value ts)
 
 abbrev pub bulk_of : {C : Type 0} → List (Tally C) → WholePolynomial
-bulk_of ts = polynomial_of (sizes ts)
+bulk_of ts = polynomial_of (bulks ts)
 
--- in print order, each monomial once, no sum above its size, and all within the limits
+-- in print order, each monomial once, no sum above its bulk, and all within the limits
 pub record IsTallied {C : Type 0} (value : C → ℤ) (ts : List (Tally C)) : Type 0 where
-  pub ordered : IsInPrintOrder (sizes ts)
-  pub bulk : IsBulkOf (sums value ts) (sizes ts)
-  pub within : AreWithin (sizes ts)
+  pub ordered : IsInPrintOrder (bulks ts)
+  pub bulk : IsBulkOf (sums value ts) (bulks ts)
+  pub within : AreWithin (bulks ts)
   pub few : length ts ≤ 1000000
 
 -- tallies of the sum p with the bulk b

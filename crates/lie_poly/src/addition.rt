@@ -10,7 +10,7 @@ ghost use Rattle.lie_poly.specs.Sorted.{IsSorted};
 ghost use Rattle.lie_poly.specs.Tallies.{IsTold, with_term};
 ghost use Rattle.lie_poly.specs.Failures.{IsFull, IsWideNumber};
 
-use crate::tally::{MAX_SIZE, MAX_TERMS};
+use crate::tally::{MAX_COEFFICIENT, MAX_TERMS};
 use lie_bytes::NoMemory;
 use lie_ring::{Mono, PastKind, PolyFail, Ring};
 use std::alloc::Global;
@@ -86,7 +86,7 @@ fn both<C: Ring>(alloc: Global, left: &(Mono, C), right: &(Mono, C)) -> Result<(
     ensures within { OnOk result (unsigned_abs (C.value left.now.1) + unsigned_abs (C.value right.now.1) < 2 ^ 127) }
     ensures wide { IfErr result (λ fail. IsWideNumber fail (pos (unsigned_abs (C.value left.now.1) + unsigned_abs (C.value right.now.1)))) }
 {
-    if left.1.size() + right.1.size() > MAX_SIZE {
+    if left.1.size() + right.1.size() > MAX_COEFFICIENT {
         return Err(PolyFail::Past(PastKind::Coefficient));
     }
     match left.1.add(&right.1) {

@@ -52,13 +52,8 @@ fn push_derivative<C: Ring>(
         Some(coefficient) => coefficient,
         None => return Err(PolyFail::Past(PastKind::Coefficient)),
     };
-    let mono = match term.0.lowered(alloc, var) {
-        Ok(mono) => mono,
-        Err(_) => return Err(PolyFail::NoMemory),
-    };
-    if out.push((mono, coefficient)).is_err() {
-        return Err(PolyFail::NoMemory);
-    }
+    let mono = term.0.lowered(alloc, var)?;
+    out.push((mono, coefficient))?;
     Ok(())
 }
 
@@ -69,14 +64,8 @@ fn repeat<C: Ring>(c: &C, times: u32) -> Option<C>
     if times == 0 {
         return Some(C::zero());
     }
-    let half = match repeat(c, times / 2) {
-        Some(half) => half,
-        None => return None,
-    };
-    let even = match half.add(&half) {
-        Some(even) => even,
-        None => return None,
-    };
+    let half = repeat(c, times / 2)?;
+    let even = half.add(&half)?;
     if times % 2 == 0 {
         return Some(even);
     }

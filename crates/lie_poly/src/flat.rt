@@ -6,7 +6,6 @@ ghost use Rattle.lie_ring.specs.Causes.{IsCause};
 ghost use Rattle.lie_ring.specs.Entries.{entries};
 ghost use Rattle.lie_poly.specs.Sorted.{IsSorted};
 ghost use Rattle.lie_poly.specs.Tallies.{sum_of, IsTallied, Tells};
-ghost use Rattle.lie_poly.specs.Failures.{IsStarved};
 
 use crate::addition::add_terms;
 use crate::derivative::derive_terms;
@@ -49,6 +48,13 @@ impl<C: Ring> Flat<C> {
     {
         self.terms.len()
     }
+
+    /// A polynomial is within the limits, which becomes known where this is called.
+    pub fn is_within_limits(&self)
+        ensures { IsWithinLimits self.now }
+    {
+        let _ = self.len();
+    }
 }
 
 impl<C: Ring> Polynomial<C> for Flat<C> {
@@ -61,10 +67,8 @@ impl<C: Ring> Polynomial<C> for Flat<C> {
     }
 
     fn of_terms(alloc: Global, terms: &[(Mono, C)]) -> Result<Flat<C>, PolyFail> {
-        match tally_terms(alloc, terms) {
-            Ok(tallies) => settled(alloc, tallies),
-            Err(fail) => Err(fail),
-        }
+        let tallies = tally_terms(alloc, terms)?;
+        Ok(settled(alloc, tallies)?)
     }
 
     fn add(&self, alloc: Global, other: &Flat<C>) -> Result<Flat<C>, PolyFail> {
@@ -76,17 +80,13 @@ impl<C: Ring> Polynomial<C> for Flat<C> {
     }
 
     fn scale(&self, alloc: Global, c: &C) -> Result<Flat<C>, PolyFail> {
-        match times_number(alloc, c, self.terms.as_slice()) {
-            Ok(tallies) => settled(alloc, tallies),
-            Err(fail) => Err(fail),
-        }
+        let tallies = times_number(alloc, c, self.terms.as_slice())?;
+        Ok(settled(alloc, tallies)?)
     }
 
     fn derive(&self, alloc: Global, var: u32) -> Result<Flat<C>, PolyFail> {
-        match derive_terms(alloc, self.terms.as_slice(), var) {
-            Ok(terms) => Ok(Flat { terms }),
-            Err(fail) => Err(fail),
-        }
+        let terms = derive_terms(alloc, self.terms.as_slice(), var)?;
+        Ok(Flat { terms })
     }
 
     fn terms(&self, alloc: Global) -> Result<Vec<(Mono, C)>, NoMemory> {
@@ -94,23 +94,18 @@ impl<C: Ring> Polynomial<C> for Flat<C> {
     }
 
     fn copy(&self, alloc: Global) -> Result<Flat<C>, NoMemory> {
-        match copy_terms(alloc, self.terms.as_slice()) {
-            Ok(terms) => Ok(Flat { terms }),
-            Err(fail) => Err(fail),
-        }
+        let terms = copy_terms(alloc, self.terms.as_slice())?;
+        Ok(Flat { terms })
     }
 }
 
 /// The polynomial that tallies tell.
-fn settled<C: Ring>(alloc: Global, tallies: Vec<Tally<C>>) -> Result<Flat<C>, PolyFail>
+fn settled<C: Ring>(alloc: Global, tallies: Vec<Tally<C>>) -> Result<Flat<C>, NoMemory>
     requires { IsTallied C.value (reverse tallies.items) }
-    ensures value { IfOk result (λ flat. flat ≡ sum_of C.value (reverse tallies.items)) }
-    ensures memory { IfErr result IsStarved }
+    ensures { IfOk result (λ flat. flat ≡ sum_of C.value (reverse tallies.items)) }
 {
-    match settle(alloc, tallies) {
-        Ok(terms) => Ok(Flat { terms }),
-        Err(_) => Err(PolyFail::NoMemory),
-    }
+    let terms = settle(alloc, tallies)?;
+    Ok(Flat { terms })
 }
 
 /// The product of two lists of terms, the right one in print order.
@@ -143,10 +138,8 @@ fn product_by_words<C: Ring>(
     ensures fits { IfSome result (λ _. IsWithinLimits
         (polynomial_of (absolutes (entries C.value left.now)) *ᴾ polynomial_of (absolutes (entries C.value right.now)))) }
 {
-    match packed_product(alloc, left, right) {
-        Some(terms) => Some(Flat { terms }),
-        None => None,
-    }
+    let terms = packed_product(alloc, left, right)?;
+    Some(Flat { terms })
 }
 
 /// The product, row by row.
@@ -162,10 +155,8 @@ fn product_by_rows<C: Ring>(
     ensures past { IfErr result (λ fail. IsCause fail
         (polynomial_of (absolutes (entries C.value left.now)) *ᴾ polynomial_of (absolutes (entries C.value right.now)))) }
 {
-    match multiply(alloc, left, right) {
-        Ok(tallies) => settled(alloc, tallies),
-        Err(fail) => Err(fail),
-    }
+    let tallies = multiply(alloc, left, right)?;
+    Ok(settled(alloc, tallies)?)
 }
 
 /// The sum of two lists of terms in print order.
@@ -178,10 +169,8 @@ fn sum<C: Ring>(alloc: Global, left: &[(Mono, C)], right: &[(Mono, C)]) -> Resul
     ensures past { IfErr result (λ fail. IsCause fail
         (polynomial_of (absolutes (entries C.value left.now)) +ᴾ polynomial_of (absolutes (entries C.value right.now)))) }
 {
-    match add_terms(alloc, left, right) {
-        Ok(terms) => Ok(Flat { terms }),
-        Err(fail) => Err(fail),
-    }
+    let terms = add_terms(alloc, left, right)?;
+    Ok(Flat { terms })
 }
 
 /// A number times sorted terms.
@@ -220,13 +209,8 @@ fn push_copy<C: Ring>(
 ) -> Result<(), NoMemory>
     ensures { OnOk result (entries C.value out.new.items ≡ entries C.value out.old.items ++ (term.now.0, C.value term.now.1) ∷ []) }
 {
-    let mono = match term.0.copy(alloc) {
-        Ok(mono) => mono,
-        Err(fail) => return Err(fail),
-    };
+    let mono = term.0.copy(alloc)?;
     let c = term.1.copy();
-    if out.push((mono, c)).is_err() {
-        return Err(NoMemory);
-    }
+    out.push((mono, c))?;
     Ok(())
 }

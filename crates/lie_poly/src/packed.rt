@@ -6,17 +6,17 @@ ghost use Rattle.lie_ring.specs.Firsts.{first_cmp};
 ghost use Rattle.lie_poly.specs.declared.packed.Packed.{Packed as PackedSum};
 ghost use Rattle.lie_poly.specs.Packed.{IsMerged, IsProduct};
 
-use crate::tally::{MAX_SIZE, MAX_TERMS};
+use crate::tally::{MAX_COEFFICIENT, MAX_TERMS};
 use lie_ring::Ring;
 use std::alloc::Global;
 use std::cmp::Ordering;
 
-/// The word of a monomial with the sum of its coefficients so far, and the sum of their absolute values.
+/// The word of a monomial with the sum of its coefficients so far, and their bulk: the sum of their absolute values.
 #[derive(Drop)]
 pub struct Packed<C: Ring> {
     pub word: u128,
     pub sum: C,
-    pub size: u128,
+    pub bulk: u128,
 }
 
 /// The product of packed terms, unless it is past a limit or there is no memory.
@@ -62,13 +62,13 @@ fn times_term<C: Ring>(
 fn product_of<C: Ring>(left: &(u128, C), right: &(u128, C)) -> Option<Packed<C>>
     ensures word { IfSome result (λ p. p.word ≡ left.now.0 + right.now.0) }
     ensures sum { IfSome result (λ p. C.value p.sum ≡ C.value left.now.1 *ℤ C.value right.now.1) }
-    ensures size { IfSome result (λ p. p.size ≡ unsigned_abs (C.value left.now.1 *ℤ C.value right.now.1)) }
+    ensures bulk { IfSome result (λ p. p.bulk ≡ unsigned_abs (C.value left.now.1 *ℤ C.value right.now.1)) }
     ensures fits { IfSome result (λ p. FitsNumber (C.value left.now.1 *ℤ C.value right.now.1)) }
 {
     let word = left.0.checked_add(right.0)?;
     let sum = left.1.mul(&right.1)?;
-    let size = sum.size();
-    Some(Packed { word, sum, size })
+    let bulk = sum.size();
+    Some(Packed { word, sum, bulk })
 }
 
 /// The sum of two lists of packed sums, the greatest words first.
@@ -116,12 +116,12 @@ fn compare_firsts<C: Ring>(left: &[Packed<C>], right: &[Packed<C>]) -> Ordering
 fn copy_of<C: Ring>(packed: &Packed<C>) -> Packed<C>
     ensures word { result.word ≡ packed.now.word }
     ensures sum { C.value result.sum ≡ C.value packed.now.sum }
-    ensures size { result.size ≡ packed.now.size }
+    ensures bulk { result.bulk ≡ packed.now.bulk }
 {
     Packed {
         word: packed.word,
         sum: packed.sum.copy(),
-        size: packed.size,
+        bulk: packed.bulk,
     }
 }
 
@@ -129,18 +129,18 @@ fn copy_of<C: Ring>(packed: &Packed<C>) -> Packed<C>
 fn both<C: Ring>(left: &Packed<C>, right: &Packed<C>) -> Option<Packed<C>>
     ensures word { IfSome result (λ p. p.word ≡ left.now.word) }
     ensures sum { IfSome result (λ p. C.value p.sum ≡ C.value left.now.sum +ℤ C.value right.now.sum) }
-    ensures size { IfSome result (λ p. p.size ≡ left.now.size + right.now.size) }
-    ensures fits { IfSome result (λ p. p.size < 2 ^ 127) }
+    ensures bulk { IfSome result (λ p. p.bulk ≡ left.now.bulk + right.now.bulk) }
+    ensures fits { IfSome result (λ p. p.bulk < 2 ^ 127) }
 {
-    let size = left.size.checked_add(right.size)?;
-    if size > MAX_SIZE {
+    let bulk = left.bulk.checked_add(right.bulk)?;
+    if bulk > MAX_COEFFICIENT {
         return None;
     }
     let sum = left.sum.add(&right.sum)?;
     Some(Packed {
         word: left.word,
         sum,
-        size,
+        bulk,
     })
 }
 

@@ -75,7 +75,7 @@ fn tally_product<C: Ring>(
 ) -> Result<Tally<C>, PolyFail>
     ensures mono { IfOk result (λ t. t.mono ≡ mono.now · factor.now.0) }
     ensures sum { IfOk result (λ t. C.value t.sum ≡ C.value c.now *ℤ C.value factor.now.1) }
-    ensures size { IfOk result (λ t. t.size ≡ unsigned_abs (C.value c.now *ℤ C.value factor.now.1)) }
+    ensures bulk { IfOk result (λ t. t.bulk ≡ unsigned_abs (C.value c.now *ℤ C.value factor.now.1)) }
     ensures fits { OnOk result (FitsNumber (C.value c.now *ℤ C.value factor.now.1)) }
     ensures low { OnOk result (HasLowExponents (mono.now · factor.now.0)) }
     ensures past { IfErr result (λ fail. IsTermCause fail (mono.now · factor.now.0) (C.value c.now *ℤ C.value factor.now.1)) }
@@ -84,9 +84,7 @@ fn tally_product<C: Ring>(
         Some(sum) => sum,
         None => return Err(PolyFail::Past(PastKind::Coefficient)),
     };
-    let size = sum.size();
-    match mono.times(alloc, &factor.0) {
-        Ok(mono) => Ok(Tally { mono, sum, size }),
-        Err(fail) => Err(fail),
-    }
+    let bulk = sum.size();
+    let mono = mono.times(alloc, &factor.0)?;
+    Ok(Tally { mono, sum, bulk })
 }

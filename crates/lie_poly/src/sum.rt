@@ -38,20 +38,15 @@ fn tally_term<C: Ring>(alloc: Global, term: &(Mono, C)) -> Result<Vec<Tally<C>>,
     ensures past { IfErr result (λ fail. IsCause fail (polynomial_of (absolutes (entries C.value (term.now ∷ []))))) }
 {
     let mut out = Vec::new(alloc);
-    let size = term.1.size();
-    if size == 0 {
+    let bulk = term.1.size();
+    if bulk == 0 {
         return Ok(out);
     }
     if !term.0.has_low_exponents() {
         return Err(PolyFail::Past(PastKind::Exponent));
     }
-    let mono = match term.0.copy(alloc) {
-        Ok(mono) => mono,
-        Err(_) => return Err(PolyFail::NoMemory),
-    };
+    let mono = term.0.copy(alloc)?;
     let sum = term.1.copy();
-    match out.push(Tally { mono, sum, size }) {
-        Ok(()) => Ok(out),
-        Err(_) => Err(PolyFail::NoMemory),
-    }
+    out.push(Tally { mono, sum, bulk })?;
+    Ok(out)
 }

@@ -8,44 +8,44 @@ use lie_bytes::NoMemory;
 use lie_ring::{Mono, PastKind, PolyFail, Ring};
 use std::alloc::Global;
 
-/// The greatest absolute value of a coefficient.
-pub const MAX_SIZE: u128 = i128::MAX as u128;
+/// The greatest absolute value of a coefficient, in a bulk as in a sum.
+pub const MAX_COEFFICIENT: u128 = i128::MAX as u128;
 
 /// The greatest number of terms.
 pub const MAX_TERMS: usize = 1_000_000;
 
-/// A monomial with the sum of its coefficients so far, and the sum of their absolute values.
+/// A monomial with the sum of its coefficients so far, and their bulk: the sum of their absolute values.
 ///
 /// Lists of tallies have the last monomial in print order first, so that the first is taken off the end.
 #[derive(Drop)]
 pub struct Tally<C: Ring> {
     pub mono: Mono,
     pub sum: C,
-    pub size: u128,
+    pub bulk: u128,
 }
 
 impl<C: Ring> Tally<C> {
     /// One tally for two of the same monomial.
     pub fn plus(self, other: Tally<C>) -> Result<Tally<C>, PolyFail>
-        requires covers { unsigned_abs (C.value self.sum) ≤ self.size }
-        requires other_covers { unsigned_abs (C.value other.sum) ≤ other.size }
-        requires fits { self.size < 2 ^ 127 }
-        requires other_fits { other.size < 2 ^ 127 }
+        requires covers { unsigned_abs (C.value self.sum) ≤ self.bulk }
+        requires other_covers { unsigned_abs (C.value other.sum) ≤ other.bulk }
+        requires fits { self.bulk < 2 ^ 127 }
+        requires other_fits { other.bulk < 2 ^ 127 }
         ensures mono { IfOk result (λ t. t.mono ≡ self.mono) }
         ensures sum { IfOk result (λ t. C.value t.sum ≡ C.value self.sum +ℤ C.value other.sum) }
-        ensures size { IfOk result (λ t. t.size ≡ self.size + other.size) }
-        ensures within { OnOk result (self.size + other.size < 2 ^ 127) }
-        ensures wide { IfErr result (λ fail. IsWide fail (self.size + other.size)) }
+        ensures bulk { IfOk result (λ t. t.bulk ≡ self.bulk + other.bulk) }
+        ensures within { OnOk result (self.bulk + other.bulk < 2 ^ 127) }
+        ensures wide { IfErr result (λ fail. IsWide fail (self.bulk + other.bulk)) }
     {
-        let size = self.size + other.size;
-        if size > MAX_SIZE {
+        let bulk = self.bulk + other.bulk;
+        if bulk > MAX_COEFFICIENT {
             return Err(PolyFail::Past(PastKind::Coefficient));
         }
         match self.sum.add(&other.sum) {
             Some(sum) => Ok(Tally {
                 mono: self.mono,
                 sum,
-                size,
+                bulk,
             }),
             None => Err(PolyFail::Past(PastKind::Coefficient)),
         }
@@ -61,10 +61,8 @@ pub fn push<C: Ring>(to: &mut Vec<Tally<C>>, tally: Tally<C>) -> Result<(), Poly
     if to.len() >= MAX_TERMS {
         return Err(PolyFail::Past(PastKind::Terms));
     }
-    match to.push(tally) {
-        Ok(()) => Ok(()),
-        Err(_) => Err(PolyFail::NoMemory),
-    }
+    to.push(tally)?;
+    Ok(())
 }
 
 /// The terms of tallies: the sums that are not 0, in print order.
@@ -88,8 +86,6 @@ fn push_unless_zero<C: Ring>(out: &mut Vec<(Mono, C)>, tally: Tally<C>) -> Resul
     if tally.sum.size() == 0 {
         return Ok(());
     }
-    if out.push((tally.mono, tally.sum)).is_err() {
-        return Err(NoMemory);
-    }
+    out.push((tally.mono, tally.sum))?;
     Ok(())
 }

@@ -12,30 +12,19 @@ use std::test::Fail;
 /// A polynomial written as its terms.
 type Terms<'a> = &'a [(&'a [(u32, u32)], i128)];
 
-fn monomial(alloc: Global, pairs: &[(u32, u32)]) -> Mono {
-    match Mono::new(alloc, pairs) {
-        Ok(Some(mono)) => mono,
-        _ => Mono::one(alloc),
-    }
-}
-
 fn listed(alloc: Global, terms: Terms) -> Result<Vec<(Mono, Whole)>, NoMemory> {
     let mut list = Vec::new(alloc);
     for (pairs, c) in terms {
-        if let Some(c) = Whole::new(*c) {
-            if list.push((monomial(alloc, pairs), c)).is_err() {
-                return Err(NoMemory);
-            }
+        if let (Some(mono), Some(c)) = (Mono::new(alloc, pairs)?, Whole::new(*c)) {
+            list.push((mono, c))?;
         }
     }
     Ok(list)
 }
 
 fn made<P: Polynomial<Whole>>(alloc: Global, terms: Terms) -> Result<P, PolyFail> {
-    match listed(alloc, terms) {
-        Ok(list) => P::of_terms(alloc, list.as_slice()),
-        Err(_) => Err(PolyFail::NoMemory),
-    }
+    let list = listed(alloc, terms)?;
+    P::of_terms(alloc, list.as_slice())
 }
 
 /// Whether the polynomial has just these terms, in this order.
@@ -110,10 +99,7 @@ fn derivative<P: Polynomial<Whole>>(alloc: Global, p: Terms, var: u32) -> Result
 
 fn copied<P: Polynomial<Whole>>(alloc: Global, p: Terms) -> Result<P, PolyFail> {
     let p: P = made(alloc, p)?;
-    match p.copy(alloc) {
-        Ok(copy) => Ok(copy),
-        Err(_) => Err(PolyFail::NoMemory),
-    }
+    Ok(p.copy(alloc)?)
 }
 
 fn check_made(rt: &impl Abort, alloc: Global, p: Terms, want: Terms) {
@@ -254,10 +240,7 @@ fn polynomials_of_one_term(rt: HostRuntime) -> Result<(), Fail> {
 fn powers(alloc: Global, var: u32, count: u32) -> Result<Flat<Whole>, PolyFail> {
     let mut terms = Vec::new(alloc);
     for exponent in 0..count {
-        match terms.push((monomial(alloc, &[(var, exponent)]), Whole::one())) {
-            Ok(()) => {}
-            Err(_) => return Err(PolyFail::NoMemory),
-        }
+        terms.push((Mono::power(alloc, var, exponent), Whole::one()))?;
     }
     Polynomial::of_terms(alloc, terms.as_slice())
 }

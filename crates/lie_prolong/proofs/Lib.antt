@@ -1,5 +1,4 @@
 pub mod Absolutes
-pub mod Positive
 pub mod Causes
 pub mod Coefficients
 pub mod Multiples

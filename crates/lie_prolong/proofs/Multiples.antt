@@ -9,19 +9,20 @@ use Rattle.lie_math.specs.Limits.{absolute}
 use Rattle.lie_math.specs.Polynomial.{WholePolynomial, 0ᴾ, ◌+ᴾ◌, ◌*ᴾ◌, constant, variable}
 use Rattle.lie_math.specs.PolynomialRing.{one-*ᴾ}
 use Rattle.lie_math.specs.VectorField.{VectorField, component}
-use Rattle.lie_math.proofs.Limits.{IsNonNegative, covered_first, covered_second, covered_trans}
+use Rattle.lie_math.proofs.Limits.{IsNonNegative}
 use Rattle.lie_geometry.specs.Coordinates.{Space, jet, number}
 use Rattle.lie_geometry.specs.Prolongation.{jet_variable, total_derivative}
 use Rattle.lie_ring.specs.Causes.{IsCause}
 use Rattle.lie_ring.specs.declared.failures.PolyFail.{PolyFail}
-use Rattle.lie_poly.proofs.SumSteps.{cause_covered}
 use Rattle.lie_jet.specs.Jets.{IsSmall}
 use Rattle.lie_prolong.specs.Bulks.{absolute_field, multiples}
-use Rattle.lie_prolong.proofs.Absolutes.{bounded_sum_of, bounded_signed, component-absolute}
-use Rattle.lie_prolong.proofs.Positive.{positive_absolute, positive_bounded, total_is_positive, times_is_positive}
-use Rattle.lie_prolong.proofs.Coefficients.{first_covered, one_covered}
+use Rattle.lie_prolong.proofs.Absolutes.{component-absolute}
+use Rattle.lie_prolong.proofs.Coefficients.{first_bound, one_bound}
 use Rattle.lie_jet.proofs.Absolutes.{absolute_twice}
-use Rattle.lie_jet.proofs.PolynomialBounds.{IsBound, covered_absolute, sum_bound}
+use Rattle.lie_jet.proofs.BoundedPolynomials.{bounded_first, bounded_second, bounded_sum_of, bounded_signed, cause_bounded}
+use Rattle.lie_jet.proofs.PolynomialBounds.{IsBound, covered_absolute, sum_bound, trans_bound}
+use Rattle.lie_jet.proofs.PositiveMaps.{positive_absolute, positive_bounded, total_is_positive, times_is_positive}
+use Rattle.lie_jet.proofs.TotalBounds.{absolute_variable}
 
 pub component_read : (V : VectorField) (ps : List WholePolynomial) (i k : ℕ) (r : WholePolynomial) → ps ≡ V.parts → k ≡ i → i < length V.parts → r ≡ get_or ps k r → r ≡ component V i
 component_read V ps i k r e f h q = get_or_read V.parts i r h (q ∙ ap₂ (λ (xs : List WholePolynomial) (n : ℕ). get_or xs n r) e f) 0ᴾ
@@ -44,16 +45,16 @@ module _ (S : Space) (small : IsSmall S) (k : ℕ) (inside : k < S.p) (a : ℕ) 
     multiples_bounded = bounded_sum_of (numbers_below S.p) one one_bulk one_bounded
 
     pub one_cause : (fail : PolyFail) (i n : ℕ) (r : WholePolynomial) → i < S.p → r ≡ V i → n ≡ number S (jet a (raise i J)) → IsCause fail (total_derivative S k (absolute r) *ᴾ variable n) → IsCause fail (multiples S (λ i. absolute (V i)) k a J)
-    one_cause fail i n r h e f c = cause_covered fail (one_bulk i) _ (one_covered i S.p one_bulk one_plain h) (subst₂ (λ p w. IsCause fail (total_derivative S k (absolute p) *ᴾ variable w)) e f c)
+    one_cause fail i n r h e f c = cause_bounded fail (one_bulk i) _ (one_bound i S.p one_bulk one_plain h) (subst₂ (λ p w. IsCause fail (total_derivative S k (absolute p) *ᴾ variable w)) e f c)
 
     pub sum_cause : (fail : PolyFail) (i : ℕ) (m s : WholePolynomial) → i < S.p → m ≡ one i → s ≡ sum_of (numbers_below i) one → IsCause fail (absolute m +ᴾ absolute s) → IsCause fail (multiples S (λ i. absolute (V i)) k a J)
     sum_cause fail i m s h e f c =
-        cause_covered fail (absolute m +ᴾ absolute s) _
-        (covered_trans _ (one_bulk i +ᴾ sum_of (numbers_below i) one_bulk) _
-        ((sum_bound (absolute m) (absolute s) (one_bulk i) (sum_of (numbers_below i) one_bulk)
+        cause_bounded fail (absolute m +ᴾ absolute s) _
+        (trans_bound _ (one_bulk i +ᴾ sum_of (numbers_below i) one_bulk) _
+        (sum_bound (absolute m) (absolute s) (one_bulk i) (sum_of (numbers_below i) one_bulk)
         (covered_absolute m (one_bulk i) (subst (λ p. IsBound p (one_bulk i)) (sym e) (one_bounded i)))
-        (covered_absolute s (sum_of (numbers_below i) one_bulk) (subst (λ p. IsBound p (sum_of (numbers_below i) one_bulk)) (sym f) (bounded_sum_of (numbers_below i) one one_bulk one_bounded)))).covered)
-        (first_covered (suc i) S.p one_bulk one_plain (let l : i < S.p = h in omega arith))) c
+        (covered_absolute s (sum_of (numbers_below i) one_bulk) (subst (λ p. IsBound p (sum_of (numbers_below i) one_bulk)) (sym f) (bounded_sum_of (numbers_below i) one one_bulk one_bounded))))
+        (first_bound (suc i) S.p one_bulk one_plain (let l : i < S.p = h in omega arith))) c
 
     -- ---- the whole step
     abbrev whole : WholePolynomial → WholePolynomial
@@ -63,21 +64,27 @@ module _ (S : Space) (small : IsSmall S) (k : ℕ) (inside : k < S.p) (a : ℕ) 
     total_bounded P = positive_absolute (total_is_positive S small k inside) P
 
     pub total_cause : (fail : PolyFail) (P : WholePolynomial) → IsCause fail (total_derivative S k (absolute P)) → IsCause fail (whole P)
-    total_cause fail P = cause_covered fail _ _ (covered_first _ _ ((total_bounded P).plain) (multiples_bounded.plain))
+    total_cause fail P = cause_bounded fail _ _ (bounded_first _ _ ((total_bounded P).plain) (multiples_bounded.plain))
 
     pub multiples_cause : (fail : PolyFail) (P : WholePolynomial) → IsCause fail (multiples S (λ i. absolute (V i)) k a J) → IsCause fail (whole P)
-    multiples_cause fail P = cause_covered fail _ _ (covered_second _ _ ((total_bounded P).plain) (multiples_bounded.plain))
+    multiples_cause fail P = cause_bounded fail _ _ (bounded_second _ _ ((total_bounded P).plain) (multiples_bounded.plain))
 
     pub scale_cause : (fail : PolyFail) (P s : WholePolynomial) (z : ℤ) → unsigned_abs z ≡ 1 → s ≡ multiples S V k a J → IsCause fail (constant (pos (unsigned_abs z)) *ᴾ absolute s) → IsCause fail (whole P)
     scale_cause fail P s z u e c =
-        multiples_cause fail P (cause_covered fail (absolute s) _ ((covered_absolute s _ (subst (λ p. IsBound p (multiples S (λ i. absolute (V i)) k a J)) (sym e) multiples_bounded)).covered)
+        multiples_cause fail P (cause_bounded fail (absolute s) _ (covered_absolute s _ (subst (λ p. IsBound p (multiples S (λ i. absolute (V i)) k a J)) (sym e) multiples_bounded))
         (subst (IsCause fail) (ap (λ n. constant (pos n) *ᴾ absolute s) u ∙ one-*ᴾ (absolute s)) c))
 
     pub add_cause : (fail : PolyFail) (P d s m : WholePolynomial) (z : ℤ) → unsigned_abs z ≡ 1 → d ≡ total_derivative S k P → m ≡ multiples S V k a J → s ≡ constant z *ᴾ m → IsCause fail (absolute d +ᴾ absolute s) → IsCause fail (whole P)
     add_cause fail P d s m z u e f g =
-        cause_covered fail (absolute d +ᴾ absolute s) _ ((sum_bound (absolute d) (absolute s) _ _
+        cause_bounded fail (absolute d +ᴾ absolute s) _ (sum_bound (absolute d) (absolute s) _ _
         (covered_absolute d _ (subst (λ p. IsBound p (total_derivative S k (absolute P))) (sym e) (total_bounded P)))
-        (covered_absolute s _ (subst (λ p. IsBound p (multiples S (λ i. absolute (V i)) k a J)) (sym (g ∙ ap (λ p. constant z *ᴾ p) f)) (bounded_signed z _ _ u multiples_bounded)))).covered)
+        (covered_absolute s _ (subst (λ p. IsBound p (multiples S (λ i. absolute (V i)) k a J)) (sym (g ∙ ap (λ p. constant z *ᴾ p) f)) (bounded_signed z _ _ u multiples_bounded))))
+
+-- ---- the product of a total derivative and a variable
+pub product_bounded : (S : Space) (small : IsSmall S) (k : ℕ) (inside : k < S.p) (p d v : WholePolynomial) (w : ℕ) → d ≡ total_derivative S k p → v ≡ variable w → IsBound (absolute d *ᴾ absolute v) (total_derivative S k (absolute p) *ᴾ variable w)
+product_bounded S small k inside p d v w e f =
+    subst₂ (λ x y. IsBound (absolute x *ᴾ y) (total_derivative S k (absolute p) *ᴾ variable w)) (sym e) (sym (ap absolute f ∙ absolute_variable w))
+    (positive_bounded (times_is_positive w) (absolute (total_derivative S k p)) (total_derivative S k (absolute p)) (covered_absolute _ _ (positive_absolute (total_is_positive S small k inside) p)))
 
 -- ---- the step with absolute values
 pub components_are : (V W : VectorField) → W ≡ absolute_field V → component W ≡ (λ i. absolute (component V i))

@@ -1,5 +1,5 @@
 -- One step of the recursion: from the jet derived once less to the jet.
-use Rattle.std.specs.Prelude.{◌≡◌, ℕ, ◌+◌, ◌-◌, ◌≤◌, [], length, take}
+use Rattle.std.specs.Prelude.{◌≡◌, ℕ, ◌+◌, ◌≤◌, [], length, take}
 use Rattle.std.proofs.Common.{sym, ap, ap₂, ◌∙◌, arith}
 use Rattle.lie_math.specs.Counts.{order}
 use Rattle.lie_math.specs.Derivation.{is_below}

@@ -4,6 +4,7 @@ ghost use Rattle.lie_prolong.specs.Bulks.{absolute_field};
 
 use lie_bytes::NoMemory;
 use lie_jet::{Field, absolute_polynomial};
+use lie_ring::PolyFail;
 use std::alloc::Global;
 
 /// The field with the absolute values of all coefficients.
@@ -13,8 +14,9 @@ pub fn absolute_field(alloc: Global, field: &Field) -> Result<Field, NoMemory>
     let mut parts = Vec::new(alloc);
     for part in field.parts() {
         match absolute_polynomial(alloc, part) {
-            Ok(size) => parts.push(size)?,
-            Err(_) => return Err(NoMemory),
+            Ok(absolute) => parts.push(absolute)?,
+            Err(PolyFail::NoMemory) => return Err(NoMemory),
+            Err(PolyFail::Past(_)) => unreachable!(),
         }
     }
     Ok(Field::new(field.den(), parts))

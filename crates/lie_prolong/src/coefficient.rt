@@ -2,7 +2,7 @@
 ghost use Rattle.std.specs.Prelude.{◌≡◌, ◌+◌, ◌<◌, pos, ℤ, unsigned_abs, length, take, IfOk, IfErr, OnOk};
 ghost use Rattle.lie_math.specs.Derivation.{is_below};
 ghost use Rattle.lie_math.specs.Limits.{IsWithinLimits, absolute};
-ghost use Rattle.lie_math.specs.Polynomial.{constant, variable as variable_polynomial, negᴾ, ◌+ᴾ◌, ◌*ᴾ◌};
+ghost use Rattle.lie_math.specs.Polynomial.{constant, variable, negᴾ, ◌+ᴾ◌, ◌*ᴾ◌};
 ghost use Rattle.lie_math.specs.VectorField.{component};
 ghost use Rattle.lie_math.specs.Variables.{IsIn};
 ghost use Rattle.lie_geometry.specs.Coordinates.{coordinates_up_to, number as number_of};
@@ -10,14 +10,13 @@ ghost use Rattle.lie_geometry.specs.Invariance.{IsFieldOn};
 ghost use Rattle.lie_geometry.specs.Prolongation.{total_derivative, coefficient_at};
 ghost use Rattle.lie_ring.specs.Causes.{IsCause};
 ghost use Rattle.lie_jet.specs.Jets.{coordinate_of, IsJet, IsSmall};
-ghost use Rattle.lie_prolong.specs.Bulks.{absolute_field, multiples, bulk_at};
+ghost use Rattle.lie_prolong.specs.Bulks.{absolute_field as absolute_field_of, multiples, bulk_at};
 ghost use Rattle.lie_jet.specs.JetLists.{AreFirstValues};
 
-use lie_bytes::NoMemory;
 use lie_jet::{
     Field, Jet, JetPoly, Space, absolute_polynomial, jet_number, lowered, raise_jet, total,
 };
-use lie_ring::{Mono, PolyFail, Polynomial, Ring, Whole};
+use lie_ring::{PolyFail, Polynomial, Ring, Whole, variable_polynomial};
 use std::alloc::Global;
 
 /// The prolonged coefficient at the jet, where those at all jets before it are given, and the field with absolute values.
@@ -25,12 +24,12 @@ pub fn coefficient(
     alloc: Global,
     space: Space,
     field: &Field,
-    sizes: &Field,
+    absolute_field: &Field,
     before: &[(Jet, JetPoly)],
     jet: &Jet,
 ) -> Result<JetPoly, PolyFail>
     requires field { IsFieldOn space field.now }
-    requires sizes { sizes.now ≡ absolute_field field.now }
+    requires absolute { absolute_field.now ≡ absolute_field_of field.now }
     requires before { AreFirstValues space (coefficient_at space (component field.now)) before.now }
     requires jet { IsJet space 12 jet.now }
     requires next { number_of space (coordinate_of space jet.now) ≡ space.p + length before.now }
@@ -45,7 +44,7 @@ pub fn coefficient(
                 alloc,
                 space,
                 field,
-                sizes,
+                absolute_field,
                 k,
                 &lower,
                 &before[place as usize].1,
@@ -61,7 +60,7 @@ fn copy_part(alloc: Global, part: &JetPoly) -> Result<JetPoly, PolyFail>
     ensures fits { OnOk result (IsWithinLimits (absolute part.now)) }
     ensures past { IfErr result (λ fail. IsCause fail (absolute part.now)) }
 {
-    let _ = part.len();
+    part.is_within_limits();
     Ok(part.copy(alloc)?)
 }
 
@@ -71,14 +70,14 @@ fn derived(
     alloc: Global,
     space: Space,
     field: &Field,
-    sizes: &Field,
+    absolute_field: &Field,
     k: u8,
     jet: &Jet,
     before: &JetPoly,
 ) -> Result<JetPoly, PolyFail>
     requires within { k < space.p }
     requires field { IsFieldOn space field.now }
-    requires sizes { sizes.now ≡ absolute_field field.now }
+    requires absolute { absolute_field.now ≡ absolute_field_of field.now }
     requires jet { IsJet space 11 jet.now }
     requires low { IsIn (is_below (coordinates_up_to space 11)) before.now }
     ensures value { IfOk result (λ made. made ≡ total_derivative space k before.now +ᴾ negᴾ
@@ -88,9 +87,17 @@ fn derived(
     ensures past { IfErr result (λ fail. IsCause fail (total_derivative space k (absolute before.now) +ᴾ multiples space
         (λ i. absolute (component field.now i)) k jet.now.dep (take space.p jet.now.counts))) }
 {
-    let size = absolute_polynomial(alloc, before)?;
-    let bulk = step(alloc, space, sizes, k, jet, &size, Whole::one())?;
-    let _ = bulk.len();
+    let absolute_before = absolute_polynomial(alloc, before)?;
+    let bulk = step(
+        alloc,
+        space,
+        absolute_field,
+        k,
+        jet,
+        &absolute_before,
+        Whole::one(),
+    )?;
+    bulk.is_within_limits();
     step(alloc, space, field, k, jet, before, Whole::one().neg())
 }
 
@@ -148,24 +155,10 @@ fn multiple(alloc: Global, space: Space, p: &JetPoly, k: u8, var: u32) -> Result
     requires small { IsSmall space }
     requires within { k < space.p }
     requires low { IsIn (is_below (coordinates_up_to space 11)) p.now }
-    ensures product { IfOk result (λ made. made ≡ total_derivative space k p.now *ᴾ variable_polynomial var) }
-    ensures past { IfErr result (λ fail. IsCause fail (total_derivative space k (absolute p.now) *ᴾ variable_polynomial var)) }
+    ensures product { IfOk result (λ made. made ≡ total_derivative space k p.now *ᴾ variable var) }
+    ensures past { IfErr result (λ fail. IsCause fail (total_derivative space k (absolute p.now) *ᴾ variable var)) }
 {
     let derivative = total(alloc, space, k, p)?;
-    let variable = variable(alloc, var)?;
+    let variable: JetPoly = variable_polynomial(alloc, var)?;
     derivative.mul(alloc, &variable)
-}
-
-/// A variable as a polynomial.
-fn variable(alloc: Global, var: u32) -> Result<JetPoly, NoMemory>
-    ensures { IfOk result (λ made. made ≡ variable_polynomial var) }
-{
-    let mono = match Mono::new(alloc, &[(var, 1)]) {
-        Ok(Some(mono)) => mono,
-        _ => return Err(NoMemory),
-    };
-    match JetPoly::of_terms(alloc, &[(mono, Whole::one())]) {
-        Ok(made) => Ok(made),
-        Err(_) => Err(NoMemory),
-    }
 }

@@ -1,7 +1,7 @@
 use Rattle.lie_ring.specs.declared.failures.PolyFail.TheVariants.{NoMemory}
 use Rattle.lie_math.specs.Limits.{absolute}
 use Rattle.lie_form.specs.FormTotals.{derived_term}
-use Rattle.std.proofs.Common.{◌≡◌, ◌∙◌, ◌<◌, ap, ap₂, sym, subst, arith}
+use Rattle.std.proofs.Common.{◌∙◌, ◌<◌, ap, ap₂, sym, subst}
 use Rattle.std.proofs.lemmas.Result.{err_from_is_err_and}
 use Rattle.lie_math.specs.Canonical.{idr}
 use Rattle.lie_math.specs.Counts.{Derivative, raised}

@@ -1,8 +1,7 @@
-use Rattle.std.proofs.Common.{◌≡◌, ◌∙◌, ◌≤◌, ap, sym, subst, arith, ℕ, length, take, List}
+use Rattle.std.proofs.Common.{◌≡◌, ◌∙◌, ◌≤◌, ap, sym, subst, ℕ, length, take, List}
 use Rattle.std.proofs.lemmas.Result.{err_from_is_err_and}
 use Rattle.lie_math.specs.LinearForm.{LinearForm, ◌+ᶠ◌}
 use Rattle.lie_math.specs.Polynomial.{WholePolynomial}
-use Rattle.lie_geometry.specs.Coordinates.{Space}
 use Rattle.lie_jet.specs.Derivatives.{derivative_of}
 use Rattle.lie_form.specs.DerivativeTerms.{derivative_terms}
 use Rattle.lie_form.specs.FormTotals.{total_of_term}

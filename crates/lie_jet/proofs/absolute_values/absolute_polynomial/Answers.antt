@@ -3,7 +3,7 @@ use Rattle.std.proofs.Common.{ℕ, subst, ◌≡◌, ◌∙◌, ap, ◌++◌, Li
 use Rattle.std.specs.Prelude.{ℤ}
 use Rattle.lie_math.specs.Limits.{absolutes}
 use Rattle.lie_math.specs.Monomial.{Monomial}
-use Rattle.lie_jet.proofs.Absolutes.{sizes_sum, sizes_starved}
+use Rattle.lie_jet.proofs.Absolutes.{absolutes_sum, absolutes_starved}
 use Rattle.lie_jet.proofs.ListPlaces.{take_map}
 use Rattle.lie_jet.proofs.TotalParts.{listed_terms, if_ok}
 use Rattle.lie_jet.proofs.TotalSteps.{if_err}
@@ -22,12 +22,12 @@ listed c = listed_terms c.args.p.now c.deref-term-items.result.now c.in_ok-terms
 whole : (xs ts : List (Monomial × ℤ)) (k : ℕ) → xs ≡ take k (absolutes ts) → length ts ≤ k → xs ≡ absolutes ts
 whole xs ts k e h = e ∙ all_taken (absolutes ts) k (subst (λ n. n ≤ k) (sym (length-absolutes ts)) h)
 
-pub returns-clause-sizes : goal.returns-clause-sizes
-returns-clause-sizes c =
-    let k = (goal.at.returns-clause-sizes c).After-deref-term-items in
-    if_ok c.of_terms.result (λ a h. h ∙ sizes_sum c.args.p.now c.deref-term-items.result.now c.as_slice.result.now (listed k) (c.as_slice.ensures.value ∙ whole c.loop-term.absolutes.items c.deref-term-items.result.now c.loop-term.term-index c.loop-term.invariant c.loop-term-test.false)) c.of_terms.ensures.sum
+pub returns-clause-absolute : goal.returns-clause-absolute
+returns-clause-absolute c =
+    let k = (goal.at.returns-clause-absolute c).After-deref-term-items in
+    if_ok c.of_terms.result (λ a h. h ∙ absolutes_sum c.args.p.now c.deref-term-items.result.now c.as_slice.result.now (listed k) (c.as_slice.ensures.value ∙ whole c.loop-term.absolutes.items c.deref-term-items.result.now c.loop-term.term-index c.loop-term.invariant c.loop-term-test.false)) c.of_terms.ensures.sum
 
 pub returns-clause-memory : goal.returns-clause-memory
 returns-clause-memory c =
     let k = (goal.at.returns-clause-memory c).After-deref-term-items in
-    if_err c.of_terms.result (λ fail h. sizes_starved c.args.p.now c.deref-term-items.result.now c.as_slice.result.now (listed k) (c.as_slice.ensures.value ∙ whole c.loop-term.absolutes.items c.deref-term-items.result.now c.loop-term.term-index c.loop-term.invariant c.loop-term-test.false) fail c.len.ensures.limits h) c.of_terms.ensures.past
+    if_err c.of_terms.result (λ fail h. absolutes_starved c.args.p.now c.deref-term-items.result.now c.as_slice.result.now (listed k) (c.as_slice.ensures.value ∙ whole c.loop-term.absolutes.items c.deref-term-items.result.now c.loop-term.term-index c.loop-term.invariant c.loop-term-test.false) fail c.len.ensures.limits h) c.of_terms.ensures.past

@@ -1,9 +1,9 @@
-use Rattle.std.proofs.Common.{arith, ap, subst, sym, ◌∙◌, ◌≡◌}
+use Rattle.std.proofs.Common.{ap, subst, sym, ◌∙◌, ◌≡◌}
 use Rattle.std.specs.Prelude.{pos, unsigned_abs}
 use Rattle.std.proofs.lemmas.Result.{err_from_is_err_and}
 use Rattle.lie_math.specs.Limits.{IsWithinLimits, absolute}
 use Rattle.lie_math.specs.Polynomial.{term, ◌+ᴾ◌}
-use Rattle.lie_geometry.specs.Coordinates.{Space, coordinates_up_to}
+use Rattle.lie_geometry.specs.Coordinates.{coordinates_up_to}
 use Rattle.lie_geometry.specs.Prolongation.{total_derivative}
 use Rattle.lie_ring.specs.Causes.{IsCause}
 use Rattle.lie_poly.proofs.SumSteps.{cause_covered}

@@ -8,15 +8,15 @@ use Rattle.lie_poly.proofs.flat.sum.Goals as goal
 
 pub invariant_of-result : goal.invariant_of-result
 invariant_of-result g c =
-    let r = c.in-Ok.ensures.sum in
+    let r = c.in_ok-terms.ensures.sum in
     subst IsSorted (sym r.1) (zeros_sorted g.C.Ring.value r.0 r.2.tallied)
 
-pub returns-in-Ok-clause-sum : goal.returns-in-Ok-clause-sum
-returns-in-Ok-clause-sum g c =
-    let r = c.in-Ok.ensures.sum in
+pub returns-clause-sum : goal.returns-clause-sum
+returns-clause-sum g c =
+    let r = c.in_ok-terms.ensures.sum in
     ap polynomial_of r.1 ∙ zeros_sum (sums g.C.Ring.value r.0) ∙ r.2.sum
 
-pub returns-in-Ok-clause-fits : goal.returns-in-Ok-clause-fits
-returns-in-Ok-clause-fits g c =
-    let r = c.in-Ok.ensures.sum in
+pub returns-clause-fits : goal.returns-clause-fits
+returns-clause-fits g c =
+    let r = c.in_ok-terms.ensures.sum in
     subst IsWithinLimits r.2.bulk (tallied_limits g.C.Ring.value r.0 r.2.tallied)

@@ -55,7 +55,7 @@ loop-right-preserved g c =
     turn_equal g.C.Ring.value c.loop-right.out.items c.loop-right.left.items c.loop-right.right.items _ _ c.loop-right.invariant
     c.take_first-first-in-Equal.new.from.items c.take_first-second.new.from.items c.take_first-first-in-Equal.result c.take_first-second.result c.take_first-first-in-Equal.ensures c.take_first-second.ensures
     (same_firsts Equal _ _ _ _ c.as_slice.ensures.value c.as_slice-in-loop-right.ensures.value c.in-Equal.ensures)
-    c.in_ok-both-in-Equal.both c.in_ok-both-in-Equal.ensures.mono c.in_ok-both-in-Equal.ensures.sum c.in_ok-both-in-Equal.ensures.size c.in_ok-both-in-Equal.ensures.within
+    c.in_ok-both-in-Equal.both c.in_ok-both-in-Equal.ensures.mono c.in_ok-both-in-Equal.ensures.sum c.in_ok-both-in-Equal.ensures.bulk c.in_ok-both-in-Equal.ensures.within
     c.push-in-Equal.new.to.items c.in_ok-push-in-Equal.ensures.items c.in_ok-push-in-Equal.ensures.room
 
 pub returns-in_err-push-in-Equal-clause-past : goal.returns-in_err-push-in-Equal-clause-past
@@ -66,7 +66,7 @@ returns-in_err-push-in-Equal-clause-past g c =
     (stop_equal g.C.Ring.value c.loop-right.out.items c.loop-right.left.items c.loop-right.right.items _ _ c.loop-right.invariant
     c.take_first-first-in-Equal.new.from.items c.take_first-second.new.from.items c.take_first-first-in-Equal.result c.take_first-second.result c.take_first-first-in-Equal.ensures c.take_first-second.ensures
     (same_firsts Equal _ _ _ _ c.as_slice.ensures.value c.as_slice-in-loop-right.ensures.value c.in-Equal.ensures)
-    c.in_ok-both-in-Equal.both c.in_ok-both-in-Equal.ensures.mono c.in_ok-both-in-Equal.ensures.sum c.in_ok-both-in-Equal.ensures.size c.in_ok-both-in-Equal.ensures.within)
+    c.in_ok-both-in-Equal.both c.in_ok-both-in-Equal.ensures.mono c.in_ok-both-in-Equal.ensures.sum c.in_ok-both-in-Equal.ensures.bulk c.in_ok-both-in-Equal.ensures.within)
     c.in_err-push-in-Equal.ensures.full)
 
 pub returns-clause-sum : goal.returns-clause-sum

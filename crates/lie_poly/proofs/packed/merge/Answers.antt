@@ -19,7 +19,7 @@ loop-i-preserved-in-Less g c =
       left_in = omega (arith, lt);
       right_in = inv.right_in;
       merged = merged_less g.C.Ring.value c.args.left.now c.args.right.now c.loop-i.i c.loop-i.j c.loop-i.out.items inv.merged c.index-left-i.result c.copy_of.result c.put.new.to.items lt c.index-left-i.is order
-          c.copy_of.ensures.word c.copy_of.ensures.sum c.copy_of.ensures.size c.in_ok-put-in-Less.ensures.items c.in_ok-put-in-Less.ensures.room;
+          c.copy_of.ensures.word c.copy_of.ensures.sum c.copy_of.ensures.bulk c.in_ok-put-in-Less.ensures.items c.in_ok-put-in-Less.ensures.room;
     }
 
 pub loop-i-preserved-in-Greater : goal.loop-i-preserved-in-Greater
@@ -33,7 +33,7 @@ loop-i-preserved-in-Greater g c =
       left_in = inv.left_in;
       right_in = omega (arith, lt);
       merged = merged_greater g.C.Ring.value c.args.left.now c.args.right.now c.loop-i.i c.loop-i.j c.loop-i.out.items inv.merged c.index-right-j.result c.copy_of-in-Greater.result c.put-in-Greater.new.to.items lt c.index-right-j.is order
-          c.copy_of-in-Greater.ensures.word c.copy_of-in-Greater.ensures.sum c.copy_of-in-Greater.ensures.size c.in_ok-put-in-Greater.ensures.items c.in_ok-put-in-Greater.ensures.room;
+          c.copy_of-in-Greater.ensures.word c.copy_of-in-Greater.ensures.sum c.copy_of-in-Greater.ensures.bulk c.in_ok-put-in-Greater.ensures.items c.in_ok-put-in-Greater.ensures.room;
     }
 
 pub loop-i-preserved : goal.loop-i-preserved
@@ -46,7 +46,7 @@ loop-i-preserved g c =
       left_in = omega (arith, lt);
       right_in = omega (arith, lt_right);
       merged = merged_equal g.C.Ring.value c.args.left.now c.args.right.now c.loop-i.i c.loop-i.j c.loop-i.out.items inv.merged c.index-left-i-in-Equal.result c.index-right-j-in-Equal.result c.in_ok-sum-in-Equal.sum c.put-in-Equal.new.to.items lt lt_right c.index-left-i-in-Equal.is c.index-right-j-in-Equal.is order
-          c.in_ok-sum-in-Equal.ensures.word c.in_ok-sum-in-Equal.ensures.sum c.in_ok-sum-in-Equal.ensures.size c.in_ok-sum-in-Equal.ensures.fits c.in_ok-put-in-Equal.ensures.items c.in_ok-put-in-Equal.ensures.room;
+          c.in_ok-sum-in-Equal.ensures.word c.in_ok-sum-in-Equal.ensures.sum c.in_ok-sum-in-Equal.ensures.bulk c.in_ok-sum-in-Equal.ensures.fits c.in_ok-put-in-Equal.ensures.items c.in_ok-put-in-Equal.ensures.room;
     }
 
 pub returns : goal.returns

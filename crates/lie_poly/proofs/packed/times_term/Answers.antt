@@ -8,7 +8,7 @@ loop-term-init g c = packed_start g.C.Ring.value c.args.factor.now c.args.terms.
 pub loop-term-preserved : goal.loop-term-preserved
 loop-term-preserved g c =
     packed_more g.C.Ring.value c.args.factor.now c.args.terms.now c.loop-term.term-index c.loop-term.out.items c.loop-term.invariant c.term-item.result c.in_ok-product.product c.put.new.to.items (omega (arith, c.loop-term-test.true)) c.term-item.is
-    c.in_ok-product.ensures.word c.in_ok-product.ensures.sum c.in_ok-product.ensures.size c.in_ok-product.ensures.fits c.in_ok-put.ensures.items
+    c.in_ok-product.ensures.word c.in_ok-product.ensures.sum c.in_ok-product.ensures.bulk c.in_ok-product.ensures.fits c.in_ok-put.ensures.items
 
 pub returns : goal.returns
 returns g c =

@@ -35,7 +35,7 @@ loop-factor-preserved g c =
     let value = g.C.Ring.value in
     subst (λ es. Multiplied value c.args.mono.now (value c.args.c.now) es c.push.new.to.items) (sym (entries_more value c.args.terms.now c.loop-factor.factor-index c.factor-item.result (omega arith) c.factor-item.is))
     (multiplied_more value c.args.mono.now (value c.args.c.now) (entries value (take c.loop-factor.factor-index c.args.terms.now)) c.loop-factor.out.items c.push.new.to.items (c.factor-item.result.0, value c.factor-item.result.1) c.in_ok-product.product c.loop-factor.invariant
-    c.in_ok-product.ensures.mono c.in_ok-product.ensures.sum c.in_ok-product.ensures.size c.in_ok-product.ensures.fits c.in_ok-product.ensures.low c.in_ok-push.ensures.items)
+    c.in_ok-product.ensures.mono c.in_ok-product.ensures.sum c.in_ok-product.ensures.bulk c.in_ok-product.ensures.fits c.in_ok-product.ensures.low c.in_ok-push.ensures.items)
 
 pub returns-clause-product : goal.returns-clause-product
 returns-clause-product g c =

@@ -5,23 +5,24 @@ use Rattle.lie_math.specs.Limits.{IsWithinLimits}
 use Rattle.lie_math.specs.Variables.{IsIn}
 use Rattle.lie_geometry.specs.Coordinates.{coordinates_up_to}
 use Rattle.lie_ring.specs.Causes.{IsCause}
-use Rattle.lie_prolong.proofs.Absolutes.{absolute_in, absolute_on}
+use Rattle.lie_jet.proofs.BoundedPolynomials.{absolute_in}
+use Rattle.lie_prolong.proofs.Absolutes.{absolute_on}
 use Rattle.lie_prolong.proofs.Multiples.{bulk_is, bulk_made}
 use Rattle.lie_jet.proofs.TotalSteps.{always}
 use Rattle.lie_prolong.proofs.coefficient.derived.Goals as goal
 
 pub step-requires-clause-field : goal.step-requires-clause-field
-step-requires-clause-field c = absolute_on c.args.space c.args.field.now c.args.sizes.now c.requires.sizes c.requires.field
+step-requires-clause-field c = absolute_on c.args.space c.args.field.now c.args.absolute_field.now c.requires.absolute c.requires.field
 
 pub step-requires-clause-low : goal.step-requires-clause-low
-step-requires-clause-low c = subst (IsIn (is_below (coordinates_up_to c.args.space 11))) (sym c.in_ok-size.ensures.sizes) (absolute_in (is_below (coordinates_up_to c.args.space 11)) c.args.before.now c.requires.low)
+step-requires-clause-low c = subst (IsIn (is_below (coordinates_up_to c.args.space 11))) (sym c.in_ok-absolute_before.ensures.absolute) (absolute_in (is_below (coordinates_up_to c.args.space 11)) c.args.before.now c.requires.low)
 
 pub returns-in_err-bulk-clause-past : goal.returns-in_err-bulk-clause-past
 returns-in_err-bulk-clause-past c =
     let p = err_from_is_err_and c.from_residual-in_err-bulk.result c.from_residual-in_err-bulk.ensures.1 in
-    rw (p.1, p.2) (subst (IsCause _) (bulk_is c.args.space c.args.field.now c.args.sizes.now c.args.k c.args.jet.now.dep (take c.args.space.p c.args.jet.now.counts) c.args.before.now c.in_ok-size.size c.requires.sizes c.in_ok-size.ensures.sizes) c.in_err-bulk.ensures.past)
+    rw (p.1, p.2) (subst (IsCause _) (bulk_is c.args.space c.args.field.now c.args.absolute_field.now c.args.k c.args.jet.now.dep (take c.args.space.p c.args.jet.now.counts) c.args.before.now c.in_ok-absolute_before.absolute_before c.requires.absolute c.in_ok-absolute_before.ensures.absolute) c.in_err-bulk.ensures.past)
 
 pub returns-clause-fits : goal.returns-clause-fits
 returns-clause-fits c =
-    let e = bulk_made c.args.space c.args.field.now c.args.sizes.now c.args.k c.args.jet.now.dep (take c.args.space.p c.args.jet.now.counts) c.args.before.now c.in_ok-size.size c.in_ok-bulk.bulk c.one.result c.one.ensures c.requires.sizes c.in_ok-size.ensures.sizes c.in_ok-bulk.ensures.value in
-    always c.step-2.result (subst IsWithinLimits e c.len.ensures.limits)
+    let e = bulk_made c.args.space c.args.field.now c.args.absolute_field.now c.args.k c.args.jet.now.dep (take c.args.space.p c.args.jet.now.counts) c.args.before.now c.in_ok-absolute_before.absolute_before c.in_ok-bulk.bulk c.one.result c.one.ensures c.requires.absolute c.in_ok-absolute_before.ensures.absolute c.in_ok-bulk.ensures.value in
+    always c.step-2.result (subst IsWithinLimits e c.is_within_limits.ensures)

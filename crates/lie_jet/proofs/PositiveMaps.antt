@@ -7,16 +7,16 @@ use Rattle.lie_math.specs.Monomial.{Monomial, ◌·◌, single}
 use Rattle.lie_math.specs.Polynomial.{WholePolynomial, terms, term, polynomial_of, 0ᴾ, ◌+ᴾ◌, ◌*ᴾ◌, variable}
 use Rattle.lie_math.specs.PolynomialRing.{+ᴾ-*ᴾ, 0ᴾ-*ᴾ, term_times_term, polynomial_of-none}
 use Rattle.lie_math.proofs.Derivation.{derived-0ᴾ}
-use Rattle.lie_math.proofs.Limits.{IsCovered, term_is, IsNonNegative}
+use Rattle.lie_math.proofs.Limits.{term_is, IsNonNegative}
 use Rattle.lie_math.proofs.CanonicalLists.{of-cons}
 use Rattle.lie_geometry.specs.Coordinates.{Space}
 use Rattle.lie_geometry.specs.Prolongation.{total_derivative}
 use Rattle.lie_geometry.proofs.Derivations.{total_is_derivation}
 use Rattle.lie_jet.specs.Jets.{IsSmall}
 use Rattle.lie_jet.proofs.TotalSteps.{size_times}
-use Rattle.lie_prolong.proofs.Absolutes.{bounded_more, left_over, left_over_plain, left_over_sum, absolute-nonneg}
-use Rattle.lie_jet.proofs.TotalBounds.{absolute_variable, term_bound, total_bound_of_term}
-use Rattle.lie_jet.proofs.PolynomialBounds.{IsBound, covered_absolute, none_bound, sum_bound}
+use Rattle.lie_jet.proofs.TotalBounds.{term_bound, total_bound_of_term}
+use Rattle.lie_jet.proofs.BoundedPolynomials.{bounded_more, left_over, left_over_plain, left_over_sum, absolute-nonneg}
+use Rattle.lie_jet.proofs.PolynomialBounds.{IsBound, none_bound, sum_bound}
 
 pub record IsPositive (F : WholePolynomial → WholePolynomial) : Type 0 where
   pub plus : (p q : WholePolynomial) → F (p +ᴾ q) ≡ F p +ᴾ F q
@@ -54,9 +54,3 @@ times_is_positive w = record {
 -- ---- the total derivatives
 pub total_is_positive : (S : Space) → IsSmall S → (i : ℕ) → i < S.p → IsPositive (total_derivative S i)
 total_is_positive S small i inside = record { plus = (total_is_derivation S i).plus; nothing = derived-0ᴾ (total_is_derivation S i); on_term = total_bound_of_term S small i inside }
-
-pub product_covered : (S : Space) (small : IsSmall S) (k : ℕ) (inside : k < S.p) (p d v : WholePolynomial) (w : ℕ) → d ≡ total_derivative S k p → v ≡ variable w → IsCovered (absolute d *ᴾ absolute v) (total_derivative S k (absolute p) *ᴾ variable w)
-product_covered S small k inside p d v w e f =
-    let positive = total_is_positive S small k inside in
-    subst₂ (λ x y. IsCovered (absolute x *ᴾ y) (total_derivative S k (absolute p) *ᴾ variable w)) (sym e) (sym (ap absolute f ∙ absolute_variable w))
-    ((positive_bounded (times_is_positive w) (absolute (total_derivative S k p)) (total_derivative S k (absolute p)) (covered_absolute _ _ (positive_absolute positive p))).covered)
