@@ -1,20 +1,20 @@
 -- Forms divided by a term that divides them: multiplied by it they are back, so they are the normalised equation.
-use Rattle.std.specs.Prelude.{false, ◌≡◌, ℕ, zero, suc, ◌+◌, ◌<◌, not, T, List, [], ◌∷◌, ◌++◌, length, take, get_or, ℤ, pos, ◌*ℤ◌, unsigned_abs, Ok, Err, IfOk, OnOk}
+use Rattle.std.specs.Prelude.{◌≡◌, ℕ, zero, suc, ◌+◌, ◌<◌, not, T, List, [], ◌∷◌, ◌++◌, length, take, get_or, ℤ, pos, ◌*ℤ◌, unsigned_abs}
 use Rattle.std.specs.Int.{◌∣◌}
 use Rattle.std.specs.List.{AllByRecursion as Every}
-use Rattle.std.proofs.Common.{refl, sym, ap, ap₂, subst, ◌∙◌, arith, is_lt, true≢false}
+use Rattle.std.proofs.Common.{refl, sym, ap, ap₂, subst, ◌∙◌, arith, is_lt}
 use Rattle.std.proofs.lemmas.Nat.Gcd.{dvd_refl}
 use Rattle.lie_math.proofs.EveryElement.{every-front, every-back}
 use Rattle.lie_math.specs.SortedSum.{below_all}
 use Rattle.lie_math.specs.Canonical.{both, first, second}
 use Rattle.lie_math.specs.FiniteSum as finite
 use Rattle.lie_math.specs.FiniteSumLaws as finite_laws
-use Rattle.lie_math.specs.Monomial.{Monomial, ◌·◌, unit}
+use Rattle.lie_math.specs.Monomial.{Monomial, ◌·◌}
 use Rattle.lie_math.specs.Polynomial.{WholePolynomial, terms, term, polynomial_of, 0ᴾ, ◌*ᴾ◌, constant}
 use Rattle.lie_math.specs.PolynomialRing.{polynomial_ring}
 use Rattle.lie_math.specs.Counts.{Derivative, derivative_cmp}
 use Rattle.lie_math.specs.LinearForm.{LinearForm, forms, times_form}
-use Rattle.lie_math.proofs.Limits.{by_test, term_is, term_apart, one_apart}
+use Rattle.lie_math.proofs.Limits.{by_test, term_apart, one_apart}
 use Rattle.lie_math.specs.FiniteSum.{IsCanonical}
 use Rattle.lie_math.proofs.CanonicalLists.{canonical_value, canonical_below, canonical_tail, canonical_cons}
 use Rattle.lie_math.proofs.Ring.{times_nil}
@@ -30,10 +30,7 @@ use Rattle.lie_systems.proofs.Normalised.{first_of, signed_content, signed_conte
 use Rattle.lie_systems.proofs.Triples.{each_times, list-times_form, sum_of_triples-triples}
 use Rattle.lie_systems.proofs.Unique.{times_form-cancel}
 use Rattle.lie_lin.specs.Forms.{coefficients_of, AreCoefficients}
-use Rattle.std.specs.Result.{is_err}
-use Rattle.std.specs.declared.result.Result.{Result}
 use Rattle.lie_ring.specs.Entries.{entries}
-use Rattle.lie_ring.specs.declared.failures.PolyFail.{PolyFail}
 use Rattle.lie_lin.specs.Powers.{IsDividedTerm}
 use Rattle.lie_lin.proofs.Forms.{coefficients_of-append}
 use Rattle.lie_poly.proofs.TimesSteps.{times-append}
@@ -170,15 +167,5 @@ unfolding primitive finite.none
 primitive_of_none E [] N are n e = e ∙ ap (λ es. primitive_of es (triples E)) are
 primitive_of_none E (x ∷ terms) N are n e = absurd (omega arith)
 
-pub one_is : (p : WholePolynomial) (ts new old : List (Monomial × ℤ)) (m : Monomial) (z : ℤ) → p ≡ polynomial_of (entries (λ z. z) ts) → ts ≡ new → new ≡ old ++ (m, z) ∷ [] → old ≡ [] → m ≡ unit → z ≡ pos 1 → p ≡ constant (pos 1)
-one_is p ts new old m z e s n o u w =
-    e ∙ ap polynomial_of (entries_same ts ∙ s ∙ n ∙ ap (λ xs. xs ++ (m, z) ∷ []) o) ∙ ap₂ (λ x y. polynomial_of ((x, y) ∷ [])) u w ∙ sym (term_is unit (pos 1))
-
-pub coefficient_made : (m : Monomial) (a : ℤ) (out slice : List (Monomial × ℤ)) (p : WholePolynomial) → times_list m a out ≡ p.list → slice ≡ out → (r : Result WholePolynomial PolyFail) → IfOk r (λ (q : WholePolynomial). q ≡ polynomial_of (entries (λ z. z) slice)) → IfOk r (λ (q : WholePolynomial). term m a *ᴾ q ≡ p)
-coefficient_made m a out slice p e s (Ok q) h = coefficient_back m a out p q e (h ∙ ap polynomial_of (entries_same slice ∙ s))
-coefficient_made m a out slice p e s (Err fail) h = tt
-
--- what holds of an answer that is no error
-pub not_err : {X E : Type 0} (P : Type 0) (r : Result X E) → is_err r ≡ false → OnOk r P → P
-not_err P (Ok x) e h = h
-not_err P (Err x) e h = absurd (true≢false e)
+pub coefficient_made : (m : Monomial) (a : ℤ) (out slice : List (Monomial × ℤ)) (p : WholePolynomial) → times_list m a out ≡ p.list → slice ≡ out → (q : WholePolynomial) → q ≡ polynomial_of (entries (λ z. z) slice) → term m a *ᴾ q ≡ p
+coefficient_made m a out slice p e s q h = coefficient_back m a out p q e (h ∙ ap polynomial_of (entries_same slice ∙ s))

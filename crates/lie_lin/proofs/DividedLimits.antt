@@ -1,6 +1,5 @@
 -- What divides a coefficient that stands within the limits leaves one that does.
-use Rattle.std.specs.Prelude.{◌≡◌, ℕ, zero, suc, ◌+◌, ◌*◌, ◌<◌, ◌^◌, not, T, List, [], ◌∷◌, length, ℤ, pos, ◌*ℤ◌, unsigned_abs, Ok, Err, IfErr}
-use Rattle.std.specs.declared.result.Result.{Result}
+use Rattle.std.specs.Prelude.{◌≡◌, ℕ, zero, suc, ◌+◌, ◌*◌, ◌<◌, ◌^◌, not, T, List, [], ◌∷◌, length, ℤ, pos, ◌*ℤ◌, unsigned_abs}
 use Rattle.std.specs.List.{AllByRecursion as Every}
 use Rattle.std.proofs.Common.{refl, sym, ap, subst, ◌∙◌, arith, is_lt}
 use borrow.Author.Differences.{ints}
@@ -68,7 +67,6 @@ module _ (m : Monomial) (a : ℤ) where
         (within_factor es (subst (Every (λ (e : Monomial × ℤ). FitsNumber e.1 × HasLowExponents e.0)) (sym e) (entries_of terms P (λ e. FitsNumber e.1 × HasLowExponents e.0) (λ e is some. (subst FitsNumber is (h.coefficients e.0), h.exponents e.0 (λ z. some (sym is ∙ z)))))))
         (let x = length-absolutes es in let y = length-times m a es in let z = ap length e in let t = h.terms in omega arith)
 
-pub divided_starved : {X : Type 0} (m : Monomial) (a : ℤ) → ¬ (a ≡ pos 0) → (slice out : List (Monomial × ℤ)) (P : WholePolynomial) → IsWithinLimits P → slice ≡ out → times_list m a out ≡ P.list → (r : Result X PolyFail) → IfErr r (λ fail. IsCause fail (polynomial_of (absolutes (entries (λ z. z) slice)))) → IfErr r IsStarved
-divided_starved m a apart slice out P h s e (Ok x) c = tt
-divided_starved m a apart slice out P h s e (Err fail) c =
+pub divided_starved : (m : Monomial) (a : ℤ) → ¬ (a ≡ pos 0) → (slice out : List (Monomial × ℤ)) (P : WholePolynomial) → IsWithinLimits P → slice ≡ out → times_list m a out ≡ P.list → (fail : PolyFail) → IsCause fail (polynomial_of (absolutes (entries (λ z. z) slice))) → IsStarved fail
+divided_starved m a apart slice out P h s e fail c =
     within_starved fail (polynomial_of (absolutes out)) (factor_within m a apart out P h e) (subst (λ es. IsCause fail (polynomial_of (absolutes es))) (entries_same slice ∙ s) c)

@@ -54,3 +54,6 @@ module _ (ders : List Der) (ts : List Triple) (all : AreDerivatives (derivatives
 
   pub many_of_parts : 1000000 < length (triples_in (gathered (derivatives_of ders) (bulks.absolute_triples ts))) → bulks.HasManyTriples (bulks.bulk ts)
   many_of_parts many = subst (λ us. 1000000 < length us) (sym bulk_gathered) many
+
+pub same_cause : (fail : PolyFail) (p q : WholePolynomial) → p ≡ q → IsCause fail p → IsCause fail q
+same_cause fail p q e h = subst (IsCause fail) e h

@@ -9,3 +9,11 @@ pub mod ContentSteps
 pub mod DividedForms
 pub mod DividedLimits
 pub mod OrderSteps
+pub mod SortedPlaces
+mod EquationPlaces
+mod SystemChanges
+mod KeptUnknowns
+mod EquationTies
+mod SystemSteps
+mod DecidingParts
+mod ValidParts

@@ -16,7 +16,7 @@ fn common_divisor(number: Whole, other: Whole) -> Whole
 {
     match Whole::new(gcd(number.size(), other.size()) as i128) {
         Some(divisor) => divisor,
-        None => other,
+        None => unreachable!(),
     }
 }
 

@@ -1,7 +1,5 @@
 // Monomials that divide others.
 ghost use Rattle.std.specs.Prelude.{◌≡◌, ◌++◌, IfOk, OnOk};
-ghost use Rattle.lie_math.specs.Monomial.{monomial_of, powers};
-ghost use Rattle.lie_math.specs.FiniteSum.{IsCanonical};
 ghost use Rattle.lie_systems.specs.Normalised.{common_factor, without_factor};
 ghost use Rattle.lie_lin.specs.Powers.{power_unless_zero};
 
@@ -19,17 +17,6 @@ fn push_power(pairs: &mut Vec<(u32, u32)>, variable: u32, exponent: u32) -> Resu
     Ok(())
 }
 
-/// The monomial with these pairs.
-fn monomial_of(alloc: Global, pairs: &[(u32, u32)]) -> Result<Mono, NoMemory>
-    requires { IsCanonical powers pairs.now }
-    ensures { IfOk result (λ mono. mono ≡ monomial_of pairs.now) }
-{
-    match Mono::new(alloc, pairs) {
-        Ok(Some(mono)) => Ok(mono),
-        _ => Err(NoMemory),
-    }
-}
-
 /// The greatest monomial that divides both.
 pub fn common_factor(alloc: Global, mono: &Mono, other: &Mono) -> Result<Mono, NoMemory>
     ensures { IfOk result (λ common. common ≡ common_factor mono.now other.now) }
@@ -39,7 +26,7 @@ pub fn common_factor(alloc: Global, mono: &Mono, other: &Mono) -> Result<Mono, N
         let exponent = pair.1.min(other.exponent(pair.0));
         push_power(&mut pairs, pair.0, exponent)?;
     }
-    monomial_of(alloc, pairs.as_slice())
+    Mono::of_pairs(alloc, pairs.as_slice())
 }
 
 /// A monomial without a factor.
@@ -51,5 +38,5 @@ pub fn without_factor(alloc: Global, factor: &Mono, mono: &Mono) -> Result<Mono,
         let exponent = pair.1.saturating_sub(factor.exponent(pair.0));
         push_power(&mut pairs, pair.0, exponent)?;
     }
-    monomial_of(alloc, pairs.as_slice())
+    Mono::of_pairs(alloc, pairs.as_slice())
 }

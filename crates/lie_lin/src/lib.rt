@@ -4,18 +4,24 @@
 mod content;
 mod derivatives;
 mod equation;
+mod equations;
 mod factors;
 mod normalised;
 mod order;
+mod parts;
 mod sum;
 mod system;
+mod validity;
 
 pub use content::{common_monomial, content_of};
 pub use equation::{LinEq, lead, push_triples, triples};
-pub use normalised::{divided_coefficient, primitive};
-pub use order::{compare_equations, triple_count};
+pub use equations::{put_equation, replace_equation};
+pub use normalised::{derivative_alone, divided_coefficient, primitive};
+pub use order::{compare_equations, form_triple_count};
 pub use sum::of_triples;
 pub use system::{LinSystem, Unknown};
 
+#[cfg(test)]
+mod system_tests;
 #[cfg(test)]
 mod tests;

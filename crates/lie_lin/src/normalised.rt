@@ -1,8 +1,8 @@
 // Normalised equations.
-ghost use Rattle.std.specs.Prelude.{◌≡◌, ◌++◌, ◌∷◌, [], IfOk, IfErr, OnOk, pos, unsigned_abs};
+ghost use Rattle.std.specs.Prelude.{◌≡◌, ◌++◌, ◌∷◌, [], IfOk, OnOk, pos, unsigned_abs};
 ghost use Rattle.std.specs.List.{AllByRecursion as Every};
+ghost use Rattle.lie_math.specs.Limits.{IsWithinLimits};
 ghost use Rattle.lie_math.specs.Polynomial.{term, ◌*ᴾ◌};
-ghost use Rattle.lie_poly.specs.Failures.{IsStarved};
 ghost use Rattle.lie_math.proofs.TermWise.{times_list};
 ghost use Rattle.lie_systems.proofs.Triples.{each_times};
 ghost use Rattle.lie_systems.specs.Triples.{triples_in};
@@ -18,7 +18,7 @@ use crate::factors::without_factor;
 use lie_bytes::NoMemory;
 use lie_jet::Der;
 use lie_poly::Flat;
-use lie_ring::{Mono, PolyFail, Polynomial, Ring, Whole};
+use lie_ring::{Mono, PolyFail, Polynomial, Ring, Whole, constant_polynomial};
 use std::alloc::Global;
 
 /// Puts a term behind others, divided by a number and a monomial that divide it.
@@ -38,25 +38,35 @@ fn push_divided(
     Ok(())
 }
 
-/// A coefficient divided by a number and a monomial that divide each of its terms. It fails for want of memory alone.
+/// A coefficient is within the limits.
+fn coefficient_fits(coefficient: &Flat<Whole>)
+    ensures { IsWithinLimits coefficient.now }
+{
+    coefficient.len();
+}
+
+/// A coefficient divided by a number and a monomial that divide each of its terms. It is never past a limit.
 pub fn divided_coefficient(
     alloc: Global,
     number: Whole,
     mono: &Mono,
     coefficient: &Flat<Whole>,
-) -> Result<Flat<Whole>, PolyFail>
+) -> Result<Flat<Whole>, NoMemory>
     requires apart { ¬ (number ≡ pos 0) }
     requires divides { Every (IsDividedTerm mono.now number) coefficient.now.list }
-    ensures rest { IfOk result (λ rest. term mono.now number *ᴾ rest ≡ coefficient.now) }
-    ensures memory { IfErr result IsStarved }
+    ensures { IfOk result (λ rest. term mono.now number *ᴾ rest ≡ coefficient.now) }
 {
-    let _ = coefficient.len();
+    coefficient_fits(coefficient);
     let terms = coefficient.terms(alloc)?;
     let mut out = Vec::new(alloc);
     for term in terms.as_slice() {
         push_divided(&mut out, alloc, number, mono, term)?;
     }
-    Flat::of_terms(alloc, out.as_slice())
+    match Flat::of_terms(alloc, out.as_slice()) {
+        Ok(rest) => Ok(rest),
+        Err(PolyFail::NoMemory) => Err(NoMemory),
+        Err(PolyFail::Past(_)) => unreachable!(),
+    }
 }
 
 /// Coefficients divided by a number and a monomial that divide each of their terms.
@@ -73,29 +83,20 @@ fn divided_coefficients(
 {
     let mut out = Vec::new(alloc);
     for term in terms {
-        let rest = match divided_coefficient(alloc, number, mono, &term.1) {
-            Ok(rest) => rest,
-            Err(_) => return Err(NoMemory),
-        };
+        let rest = divided_coefficient(alloc, number, mono, &term.1)?;
         out.push((term.0, rest))?;
     }
     Ok(out)
 }
 
 /// A derivative with the coefficient 1.
-fn alone(alloc: Global, der: Der) -> Result<LinEq, NoMemory>
+pub fn derivative_alone(alloc: Global, der: Der) -> Result<LinEq, NoMemory>
     ensures { IfOk result (λ form. form ≡ derivative_alone (derivative_of der)) }
 {
-    let mut one = Vec::new(alloc);
-    one.push((Mono::one(alloc), Whole::one()))?;
-    match Flat::of_terms(alloc, one.as_slice()) {
-        Ok(one) => {
-            let mut terms = Vec::new(alloc);
-            terms.push((der, one))?;
-            Ok(LinEq::of_terms(terms))
-        }
-        Err(_) => Err(NoMemory),
-    }
+    let one = constant_polynomial(alloc, Whole::one())?;
+    let mut terms = Vec::new(alloc);
+    terms.push((der, one))?;
+    Ok(LinEq::of_terms(terms))
 }
 
 /// The normalised equation: without a coefficient where there is one derivative alone, and else divided by the greatest number and
@@ -105,7 +106,7 @@ pub fn primitive(alloc: Global, eq: &LinEq) -> Result<LinEq, NoMemory>
 {
     let terms = eq.terms();
     if terms.len() == 1 {
-        return alone(alloc, terms[0].0);
+        return derivative_alone(alloc, terms[0].0);
     }
     if terms.len() == 0 {
         return Ok(LinEq::of_terms(Vec::new(alloc)));

@@ -13,8 +13,8 @@ use lie_ring::{Mono, Whole};
 use std::alloc::Global;
 use std::cmp::Ordering;
 
-/// The number of triples of a derivative, a monomial and a number.
-pub fn triple_count(eq: &LinEq) -> u128
+/// The number of triples of a form: of a derivative, a monomial and a number.
+pub fn form_triple_count(eq: &LinEq) -> u128
     ensures count { result ≡ length (triples_in_form eq.now) }
     ensures small { result < 2 ^ 127 }
 {
@@ -54,7 +54,7 @@ fn compare_lists(left: &[(Der, Mono, Whole)], right: &[(Der, Mono, Whole)]) -> O
 pub fn compare_equations(alloc: Global, left: &LinEq, right: &LinEq) -> Result<Ordering, NoMemory>
     ensures { IfOk result (λ order. order ≡ equation_cmp left.now right.now) }
 {
-    match triple_count(left).cmp(&triple_count(right)) {
+    match form_triple_count(left).cmp(&form_triple_count(right)) {
         Ordering::Less => Ok(Ordering::Less),
         Ordering::Greater => Ok(Ordering::Greater),
         Ordering::Equal => compare_triple_lists(alloc, left, right),

@@ -13,7 +13,7 @@ ghost use Rattle.lie_jet.specs.Derivatives.{derivative_of};
 use crate::derivatives::derivatives;
 use crate::equation::LinEq;
 use lie_bytes::NoMemory;
-use lie_jet::{Der, absolute_value, compare_derivatives, order_of_derivative};
+use lie_jet::{Der, compare_derivatives, order_of_derivative};
 use lie_poly::Flat;
 use lie_ring::{Mono, PastKind, PolyFail, Polynomial, Ring, Whole};
 use std::alloc::Global;
@@ -32,10 +32,8 @@ pub fn of_triples(alloc: Global, list: &[(Der, Mono, Whole)]) -> Result<LinEq, P
     ensures past { IfErr result (λ fail. IsFormCause fail (bulk (triples_of list.now))) }
 {
     let ders = derivatives(alloc, list)?;
-    match coefficients(alloc, list, ders.as_slice()) {
-        Ok(terms) => Ok(LinEq::of_terms(terms)),
-        Err(fail) => Err(fail),
-    }
+    let terms = coefficients(alloc, list, ders.as_slice())?;
+    Ok(LinEq::of_terms(terms))
 }
 
 /// The coefficients of derivatives in a sum of triples.
@@ -52,18 +50,12 @@ fn coefficients(
     let mut terms = Vec::new(alloc);
     let mut count: u128 = 0;
     for der in ders {
-        let (coefficient, size) = match coefficient_of(alloc, list, der) {
-            Ok(found) => found,
-            Err(fail) => return Err(fail),
-        };
+        let (coefficient, size) = coefficient_of(alloc, list, der)?;
         if is_high(der, size) {
             return Err(PolyFail::Past(PastKind::Order));
         }
         count += size as u128;
-        match push_unless_zero(&mut terms, der, coefficient) {
-            Ok(()) => {}
-            Err(_) => return Err(PolyFail::NoMemory),
-        }
+        push_unless_zero(&mut terms, der, coefficient)?;
     }
     if count > MAX_TRIPLES {
         return Err(PolyFail::Past(PastKind::Terms));
@@ -96,22 +88,11 @@ fn coefficient_of(
     ensures past { IfErr result (λ fail. IsCause fail (polynomial_of (absolutes
         (terms_at (derivative_of der.now) (triples_of list.now))))) }
 {
-    let terms = match terms_of(alloc, list, der) {
-        Ok(terms) => terms,
-        Err(_) => return Err(PolyFail::NoMemory),
-    };
-    let coefficient = match flat_of(alloc, terms.as_slice()) {
-        Ok(coefficient) => coefficient,
-        Err(fail) => return Err(fail),
-    };
-    let sizes = match sizes_of(alloc, terms.as_slice()) {
-        Ok(sizes) => sizes,
-        Err(_) => return Err(PolyFail::NoMemory),
-    };
-    match flat_of(alloc, sizes.as_slice()) {
-        Ok(bulk) => Ok((coefficient, bulk.len())),
-        Err(fail) => Err(fail),
-    }
+    let terms = terms_of(alloc, list, der)?;
+    let coefficient = flat_of(alloc, terms.as_slice())?;
+    let sizes = sizes_of(alloc, terms.as_slice())?;
+    let bulk = flat_of(alloc, sizes.as_slice())?;
+    Ok((coefficient, bulk.len()))
 }
 
 /// The sum of terms.
@@ -160,7 +141,7 @@ fn sizes_of(alloc: Global, terms: &[(Mono, Whole)]) -> Result<Vec<(Mono, Whole)>
 {
     let mut sizes = Vec::new(alloc);
     for (mono, number) in terms {
-        push_term(&mut sizes, alloc, mono, absolute_value(*number))?;
+        push_term(&mut sizes, alloc, mono, number.absolute())?;
     }
     Ok(sizes)
 }

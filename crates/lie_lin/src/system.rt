@@ -1,10 +1,14 @@
 // Linear systems for unknown polynomials.
-ghost use Rattle.std.specs.Prelude.{◌≡◌, ◌+◌, map};
-ghost use Rattle.lie_systems.specs.ValidSystems.{IsValid};
-ghost use Rattle.lie_lin.specs.Systems.{system_of, unknown_of};
+ghost use Rattle.std.specs.Prelude.{◌≡◌, ◌+◌, ◌-◌, ◌<◌, ◌^◌, map, length, remove, slice_index_or, slice_set, IfOk, OnOk, OnErr};
+ghost use Rattle.lie_systems.specs.ValidSystems.{IsFormOf, IsValid, HasVariablesBelow};
+ghost use Rattle.lie_lin.specs.EquationLists.{HasUnlessEmpty, IsEquationFor};
+ghost use Rattle.lie_lin.specs.Systems.{system_of, unknown_of, with_equations, with_general, with_unknown, without_unknown, fresh_unknown};
 
 use crate::equation::LinEq;
+use crate::equations::{put_equation, replace_equation};
+use lie_bytes::NoMemory;
 use lie_jet::Space;
+use std::alloc::Global;
 use std::marker::Model;
 
 /// An unknown polynomial.
@@ -107,5 +111,84 @@ impl LinSystem {
         ensures { result ≡ self.now.system.next }
     {
         self.next
+    }
+
+    /// Removes the equation at a place.
+    pub fn remove_equation(&mut self, place: usize) -> LinEq
+        requires { place < length self.old.system.equations }
+        ensures removed { result ≡ slice_index_or self.old.system.equations place result }
+        ensures space { self.new.space ≡ self.old.space }
+        ensures system { self.new.system ≡ with_equations self.old.system (remove self.old.system.equations place) }
+    {
+        self.equations.remove(place)
+    }
+
+    /// Puts a normalised equation into its place by the order of equations, unless it is there or is empty. After an error the system
+    /// is as it was.
+    pub fn put_equation(&mut self, alloc: Global, eq: LinEq) -> Result<(), NoMemory>
+        requires { IsEquationFor (self.old.space.p + self.old.space.q) self.old.system eq }
+        ensures put { OnOk result (HasUnlessEmpty eq self.old.system.equations self.new.system.equations) }
+        ensures space { self.new.space ≡ self.old.space }
+        ensures rest { self.new.system ≡ with_equations self.old.system self.new.system.equations }
+        ensures kept { OnErr result (self.new ≡ self.old) }
+    {
+        put_equation(&mut self.equations, alloc, eq)
+    }
+
+    /// Removes the equation at a place, and puts a normalised one into its own place by the order of equations, unless it is among the
+    /// others or is empty. After an error the system is as it was.
+    pub fn replace_equation(
+        &mut self,
+        alloc: Global,
+        place: usize,
+        eq: LinEq,
+    ) -> Result<(), NoMemory>
+        requires place { place < length self.old.system.equations }
+        requires equation { IsEquationFor (self.old.space.p + self.old.space.q) self.old.system eq }
+        ensures put { OnOk result (HasUnlessEmpty eq (remove self.old.system.equations place) self.new.system.equations) }
+        ensures space { self.new.space ≡ self.old.space }
+        ensures rest { self.new.system ≡ with_equations self.old.system self.new.system.equations }
+        ensures kept { OnErr result (self.new ≡ self.old) }
+    {
+        replace_equation(&mut self.equations, alloc, place, eq)
+    }
+
+    /// Replaces the general form of a component.
+    pub fn set_general(&mut self, component: usize, form: LinEq)
+        requires place { component < length self.old.system.general }
+        requires form { IsFormOf (self.old.space.p + self.old.space.q) self.old.system.unknowns form }
+        ensures space { self.new.space ≡ self.old.space }
+        ensures system { self.new.system ≡ with_general self.old.system (slice_set self.old.system.general component form) }
+    {
+        self.general[component] = form;
+    }
+
+    /// Puts a fresh unknown behind the others, with the number `next`, which is 1 more from there on. After an error the system is as
+    /// it was.
+    pub fn add_unknown(&mut self, vars: u8) -> Result<Unknown, NoMemory>
+        requires free { self.old.system.next < 2 ^ 32 - 1 }
+        requires variables { HasVariablesBelow (self.old.space.p + self.old.space.q) (fresh_unknown self.old.system vars) }
+        ensures unknown { IfOk result (λ unknown. unknown_of unknown ≡ fresh_unknown self.old.system vars) }
+        ensures space { self.new.space ≡ self.old.space }
+        ensures system { OnOk result (self.new.system ≡ with_unknown self.old.system (fresh_unknown self.old.system vars)) }
+        ensures kept { OnErr result (self.new ≡ self.old) }
+    {
+        let unknown = Unknown {
+            number: self.next,
+            vars,
+        };
+        self.unknowns.push(unknown)?;
+        self.next += 1;
+        Ok(unknown)
+    }
+
+    /// Removes the unknown at a place, which no equation and no general form has.
+    pub fn remove_unknown(&mut self, place: usize)
+        requires place { place < length self.old.system.unknowns }
+        requires rest { IsValid (self.old.space.p + self.old.space.q) (without_unknown self.old.system place) }
+        ensures space { self.new.space ≡ self.old.space }
+        ensures system { self.new.system ≡ without_unknown self.old.system place }
+    {
+        self.unknowns.remove(place);
     }
 }

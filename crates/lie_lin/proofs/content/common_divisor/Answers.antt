@@ -9,8 +9,8 @@ use Rattle.lie_lin.proofs.content.common_divisor.Goals as goal
 pub overflow_cast-gcd : goal.overflow_cast-gcd
 overflow_cast-gcd c = let a = c.size.ensures.size in let b = c.size-2.ensures.size in let fa = c.size.ensures.fits in let fb = c.size-2.ensures.fits in fits_signed_from_abs w128 (pos c.gcd.result) (divisor_fits c.size.result c.size-2.result c.gcd.result c.gcd.ensures (omega arith) (omega arith))
 
-pub returns-in-Some : goal.returns-in-Some
-returns-in-Some c =
+pub returns : goal.returns
+returns c =
     let a = c.size.ensures.size in
     let b = c.size-2.ensures.size in
     let fa = c.size.ensures.fits in
@@ -18,8 +18,8 @@ returns-in-Some c =
     let k : c.gcd.result < 2 ^ 127 = divisor_fits c.size.result c.size-2.result c.gcd.result c.gcd.ensures (omega arith) (omega arith) in
     c.in-Some.ensures.0 ∙ to_z_pos w128 c.gcd.result k ∙ ap pos (divisor_is c.size.result c.size-2.result c.gcd.result c.gcd.ensures ∙ ap₂ common_divisor c.size.ensures.size c.size-2.ensures.size)
 
-pub returns-in-None : goal.returns-in-None
-returns-in-None c =
+pub unreachable-requires : goal.unreachable-requires
+unreachable-requires c =
     let a = c.size.ensures.size in
     let b = c.size-2.ensures.size in
     let fa = c.size.ensures.fits in

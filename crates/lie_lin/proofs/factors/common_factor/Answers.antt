@@ -12,11 +12,11 @@ loop-pair-preserved c =
     (c.min-exponent.ensures ∙ ap (λ n. min (get_or {A = ℕ × ℕ} c.pairs-pair-items.result.now c.loop-pair.pair-index (0, 0)).1 n) c.exponent.ensures)
     ∙ sym (changed_more (λ v e. min e (exponent c.args.other.now v)) c.pairs-pair-items.result.now c.loop-pair.pair-index (0, 0) c.loop-pair-test.true)
 
-pub monomial_of-requires : goal.monomial_of-requires
-monomial_of-requires c =
+pub of_pairs-requires : goal.of_pairs-requires
+of_pairs-requires c =
     (made (λ v e. min e (exponent c.args.other.now v)) c.args.mono.now c.pairs-pair-items.result.now c.as_slice.result.now c.loop-pair.pair-index c.pairs-pair-items.ensures (omega (arith, c.loop-pair-test.false)) (c.as_slice.ensures.value ∙ c.loop-pair.invariant)).0
 
 pub returns : goal.returns
 returns c =
-    subst (λ (m : Monomial). IfOk c.monomial_of.result (λ (n : Monomial). n ≡ m))
-    (made (λ v e. min e (exponent c.args.other.now v)) c.args.mono.now c.pairs-pair-items.result.now c.as_slice.result.now c.loop-pair.pair-index c.pairs-pair-items.ensures (omega (arith, c.loop-pair-test.false)) (c.as_slice.ensures.value ∙ c.loop-pair.invariant)).1 c.monomial_of.ensures
+    subst (λ (m : Monomial). IfOk c.of_pairs.result (λ (n : Monomial). n ≡ m))
+    (made (λ v e. min e (exponent c.args.other.now v)) c.args.mono.now c.pairs-pair-items.result.now c.as_slice.result.now c.loop-pair.pair-index c.pairs-pair-items.ensures (omega (arith, c.loop-pair-test.false)) (c.as_slice.ensures.value ∙ c.loop-pair.invariant)).1 c.of_pairs.ensures

@@ -7,5 +7,5 @@ divided_coefficient-requires-clause-divides c = divided_at c.args.mono.now c.arg
 
 pub loop-term-preserved : goal.loop-term-preserved
 loop-term-preserved c =
-    form_step (term c.args.mono.now c.args.number) c.in-Ok.rest c.loop-term.out.items c.push.new.self.items c.args.terms.now c.loop-term.term-index c.term-item.result c.loop-term-test.true c.term-item.is
-    c.in_ok-push.ensures.items c.in-Ok.ensures.rest c.loop-term.invariant
+    form_step (term c.args.mono.now c.args.number) c.in_ok-rest.rest c.loop-term.out.items c.push.new.self.items c.args.terms.now c.loop-term.term-index c.term-item.result c.loop-term-test.true c.term-item.is
+    c.in_ok-push.ensures.items c.in_ok-rest.ensures c.loop-term.invariant

@@ -12,8 +12,8 @@ use Rattle.lie_lin.proofs.normalised.primitive.Goals as goal
 
 pub returns-then-terms-eq1 : goal.returns-then-terms-eq1
 returns-then-terms-eq1 c =
-    subst (λ (P : LinearForm). IfOk c.alone.result (λ (made : LinearForm). made ≡ P))
-    (ap (λ (e : Der × WholePolynomial). derivative_alone (derivative_of e.0)) (sym c.index-terms-0.is) ∙ primitive_of_one c.args.eq.now c.terms-terms.result.now c.index-terms-0.result c.terms-terms.ensures.list c.if-terms-eq1.true c.index-terms-0.is) c.alone.ensures
+    subst (λ (P : LinearForm). IfOk c.derivative_alone.result (λ (made : LinearForm). made ≡ P))
+    (ap (λ (e : Der × WholePolynomial). derivative_alone (derivative_of e.0)) (sym c.index-terms-0.is) ∙ primitive_of_one c.args.eq.now c.terms-terms.result.now c.index-terms-0.result c.terms-terms.ensures.list c.if-terms-eq1.true c.index-terms-0.is) c.derivative_alone.ensures
 
 pub returns-then-terms-eq0 : goal.returns-then-terms-eq0
 returns-then-terms-eq0 c =

@@ -1,6 +1,9 @@
-use Rattle.std.proofs.Common.{◌∙◌}
-use Rattle.lie_lin.proofs.OpeningSystem.{unknown_sum}
+use Rattle.std.proofs.Common.{◌≡◌, subst}
+use Rattle.std.specs.Prelude.{IfOk}
+use Rattle.lie_math.specs.Counts.{Derivative}
+use Rattle.lie_math.specs.LinearForm.{LinearForm}
+use Rattle.lie_systems.specs.Normalised.{derivative_alone}
 use Rattle.lie_lin.proofs.tests.unknown.Goals as goal
 
-pub returns-in-Ok : goal.returns-in-Ok
-returns-in-Ok c = c.in-Ok.ensures.sum ∙ unknown_sum c.args.number c.plain.result c.one.result c.one-2.result c.plain.ensures c.one.ensures c.one-2.ensures
+pub returns : goal.returns
+returns c = subst (λ (d : Derivative). IfOk c.derivative_alone.result (λ (form : LinearForm). form ≡ derivative_alone d)) c.plain.ensures c.derivative_alone.ensures
