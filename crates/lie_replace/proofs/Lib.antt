@@ -1,0 +1,15 @@
+mod Elements
+mod SortedPlaces
+mod CleaningSteps
+mod Tidied
+mod AddedEquations
+mod DerivativesBy
+mod GrowingCoefficients
+mod DerivativeBounds
+mod LastingForms
+mod LastingTerms
+mod LastingEntries
+mod CarriedCauses
+mod IteratedSteps
+mod ReplacingSteps
+mod JointForms

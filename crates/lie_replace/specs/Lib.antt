@@ -1,0 +1,4 @@
+pub mod Sorting
+pub mod Cleaning
+pub mod Replacing
+pub mod Growing

@@ -1,0 +1,112 @@
+// Cleaned lists of equations: normalised, without empty ones and doubles, and in order.
+ghost use Rattle.std.specs.Prelude.{◌≡◌, ◌++◌, MatchOption, IfErr, IfOk, OnOk};
+ghost use Rattle.std.specs.List.{AllByRecursion as Every, Any};
+ghost use Rattle.std.specs.List.Sorted.{IsStrictlySortedBy};
+ghost use Rattle.lie_systems.specs.EquationOrder.{equation_cmp};
+ghost use Rattle.lie_systems.specs.Normalised.{IsNormalised};
+ghost use Rattle.lie_steps.specs.Tidying.{IsTidied};
+ghost use Rattle.lie_replace.specs.Cleaning.{taken_back, AreFilled};
+ghost use Rattle.lie_replace.specs.Sorting.{Adds, IsEquationOf, IsOneMore};
+
+use crate::sorting::put_equation;
+use lie_bytes::NoMemory;
+use lie_lin::{LinEq, lead, primitive};
+use std::alloc::Global;
+
+/// Puts the normalised equations of forms into their places in a list of normalised equations in order. Empty forms and doubles
+/// are dropped. Each is put in by halving. After an error the list is as it was.
+pub fn put_cleaned(
+    equations: &mut Vec<LinEq>,
+    alloc: Global,
+    forms: &[LinEq],
+) -> Result<(), NoMemory>
+    requires ordered { IsStrictlySortedBy equation_cmp equations.old.items }
+    requires normalised { Every IsNormalised equations.old.items }
+    ensures tidied { OnOk result (IsTidied (equations.old.items ++ forms.now) equations.new.items) }
+    ensures ordered { IsStrictlySortedBy equation_cmp equations.new.items }
+    ensures normalised { Every IsNormalised equations.new.items }
+    ensures kept { IfErr result (λ _. equations.new.items ≡ equations.old.items) }
+{
+    let mut places = Vec::new(alloc);
+    match put_each(equations, alloc, forms, &mut places) {
+        Ok(()) => Ok(()),
+        Err(fail) => {
+            take_back(equations, places);
+            Err(fail)
+        }
+    }
+}
+
+/// Takes away what was put at these places, the last one first.
+fn take_back(equations: &mut Vec<LinEq>, mut places: Vec<usize>)
+    requires { AreFilled places.items equations.old.items }
+    ensures { equations.new.items ≡ taken_back places.items equations.old.items }
+{
+    while let Some(place) = places.pop() {
+        let _ = equations.remove(place);
+    }
+}
+
+/// Puts the normalised equations of forms into their places, and notes the places.
+fn put_each(
+    equations: &mut Vec<LinEq>,
+    alloc: Global,
+    forms: &[LinEq],
+    places: &mut Vec<usize>,
+) -> Result<(), NoMemory>
+    requires ordered { IsStrictlySortedBy equation_cmp equations.old.items }
+    requires filled { AreFilled places.old.items equations.old.items }
+    ensures added { OnOk result (Adds (λ e. Any (λ E. IsEquationOf E e) forms.now) equations.old.items equations.new.items) }
+    ensures filled { AreFilled places.new.items equations.new.items }
+    ensures back { taken_back places.new.items equations.new.items ≡ taken_back places.old.items equations.old.items }
+{
+    for form in forms {
+        put_noted(equations, alloc, form, places)?;
+    }
+    Ok(())
+}
+
+/// Puts the normalised equation of a form into its place, and notes the place.
+fn put_noted(
+    equations: &mut Vec<LinEq>,
+    alloc: Global,
+    form: &LinEq,
+    places: &mut Vec<usize>,
+) -> Result<(), NoMemory>
+    requires ordered { IsStrictlySortedBy equation_cmp equations.old.items }
+    requires filled { AreFilled places.old.items equations.old.items }
+    ensures added { OnOk result (Adds (IsEquationOf form.now) equations.old.items equations.new.items) }
+    ensures filled { AreFilled places.new.items equations.new.items }
+    ensures back { taken_back places.new.items equations.new.items ≡ taken_back places.old.items equations.old.items }
+{
+    places.reserve(1)?;
+    if let Some(place) = put_normalised(equations, alloc, form)? {
+        match places.push(place) {
+            Ok(()) => {}
+            Err(_) => unreachable!(),
+        }
+    }
+    Ok(())
+}
+
+/// Puts the normalised equation of a form into its place, unless it is empty or there, and tells the place. After an error the list
+/// is as it was.
+fn put_normalised(
+    equations: &mut Vec<LinEq>,
+    alloc: Global,
+    form: &LinEq,
+) -> Result<Option<usize>, NoMemory>
+    requires { IsStrictlySortedBy equation_cmp equations.old.items }
+    ensures added { OnOk result (Adds (IsEquationOf form.now) equations.old.items equations.new.items) }
+    ensures place { IfOk result (λ found. MatchOption found (equations.new.items ≡ equations.old.items)
+        (λ i. IsOneMore i equations.old.items equations.new.items)) }
+    ensures kept { IfErr result (λ _. equations.new.items ≡ equations.old.items) }
+{
+    match lead(form) {
+        None => Ok(None),
+        Some(_) => {
+            let eq = primitive(alloc, form)?;
+            put_equation(equations, alloc, eq)
+        }
+    }
+}

@@ -1,0 +1,18 @@
+//! What a step of the rules leaves: lists of equations that are cleaned, and equations and forms in which an unknown is replaced.
+#![tactic(auto)]
+
+mod cleaning;
+mod iterated;
+mod lasting;
+mod replacing;
+mod sorting;
+
+pub use cleaning::put_cleaned;
+pub use replacing::{replace, replace_in_all};
+
+#[cfg(test)]
+mod cleaning_tests;
+#[cfg(test)]
+mod replacing_tests;
+#[cfg(test)]
+mod test_forms;
