@@ -9,43 +9,22 @@ use Rattle.lie_math.proofs.EveryElement.{every_contained, every_of_contained}
 use Rattle.lie_geometry.specs.Coordinates.{Space, coordinate, coordinates_up_to}
 use Rattle.lie_geometry.specs.Invariance.{greatest_order, applied_prolongation}
 use Rattle.lie_geometry.specs.SolvedEquations.{SolvedEquation}
-use Rattle.lie_systems.specs.Works.{Limit, OnCoefficients, OnExponents, OnTerms, OnOrders, OnUnknowns, OnWidth, APolynomial, IsMadePast}
-use Rattle.lie_systems.proofs.WorkLimits.{within_or_past, not_within_and_past}
+use Rattle.lie_systems.specs.Works.{APolynomial, IsMadePast}
 use Rattle.lie_prolong.specs.Bulks.{bulk_at}
-use Rattle.lie_ring.specs.Causes.{IsPast}
 use Rattle.lie_ring.specs.declared.failures.PastKind.{PastKind}
-use Rattle.lie_ring.specs.declared.failures.PastKind.TheVariants.{Coefficient, Exponent, Terms, Order, Unknowns, Width}
 use Rattle.lie_ring.specs.declared.failures.PolyFail.TheVariants.{Past}
 use Rattle.lie_reduce.specs.Bulks.{reduction_bulk}
-use Rattle.lie_check.specs.Actions.{application_bulk, IsActionBulk, coefficient, application, reduction, AreActionsWithin, IsActionCause}
+use Rattle.lie_reduce.specs.Kinds.{limit_of}
+use Rattle.lie_reduce.proofs.WorkKinds.{made_told, work_apart}
+use Rattle.lie_check.specs.Actions.{application_bulk, CheckMakes, coefficient, application, reduction, AreActionsWithin, IsActionCause}
 use Rattle.lie_check.specs.Laws.{ActionsAreWithinOrPast, ActionsAreNotWithinAndPast}
 
 -- ---- a polynomial
 abbrev IsSomehowPast : WholePolynomial → Type 0
-IsSomehowPast p = (kind : PastKind) × IsPast kind p
-
-kind_past : (limit : Limit) (p : WholePolynomial) → IsMadePast limit (APolynomial p) → IsSomehowPast p
-kind_past OnCoefficients p a = (Coefficient, a)
-kind_past OnExponents p a = (Exponent, a)
-kind_past OnTerms p a = (Terms, a)
-kind_past OnOrders p a = absurd a
-kind_past OnUnknowns p a = absurd a
-kind_past OnWidth p a = absurd a
+IsSomehowPast p = (kind : PastKind) × IsMadePast (limit_of kind) (APolynomial p)
 
 polynomial_told : (p : WholePolynomial) → IsWithinLimits p ⊎ IsSomehowPast p
-polynomial_told p = go (within_or_past (APolynomial p))
-  where
-    go : IsWithinLimits p ⊎ ((limit : Limit) × IsMadePast limit (APolynomial p)) → IsWithinLimits p ⊎ IsSomehowPast p
-    go (inl w) = inl w
-    go (inr (limit, past)) = inr (kind_past limit p past)
-
-polynomial_apart : (kind : PastKind) (p : WholePolynomial) → IsWithinLimits p → IsPast kind p → ⊥
-polynomial_apart Coefficient p w a = not_within_and_past OnCoefficients (APolynomial p) w a
-polynomial_apart Exponent p w a = not_within_and_past OnExponents (APolynomial p) w a
-polynomial_apart Terms p w a = not_within_and_past OnTerms (APolynomial p) w a
-polynomial_apart Order p w a = a
-polynomial_apart Unknowns p w a = a
-polynomial_apart Width p w a = a
+polynomial_told p = made_told (APolynomial p)
 
 -- ---- many of them
 elements_told : (X : Type 0) (f : X → WholePolynomial) (xs : List X) → ((x : X) → Contains xs x → IsWithinLimits (f x)) ⊎ ((x : X) × Contains xs x × IsSomehowPast (f x))
@@ -94,12 +73,12 @@ module _ (S : Space) (rs : List SolvedEquation) (V : ℕ → WholePolynomial) wh
           ⊎ ((r : SolvedEquation) × Contains rs r × IsSomehowPast (reduction_bulk rs (applied_prolongation S rs V r)))
           → AreActionsWithin S rs V ⊎ IsOnePast
       go (inl cs) (inl bs) (inl ds) = inl (within cs bs ds)
-      go (inr (w, low, high, past)) bs ds = inr (past.0, (bulk_at S V (coordinate S w), coefficient w low high, past.1))
-      go (inl cs) (inr (r, c, past)) ds = inr (past.0, (application_bulk S rs V r, application r c, past.1))
-      go (inl cs) (inl bs) (inr (r, c, past)) = inr (past.0, (reduction_bulk rs (applied_prolongation S rs V r), reduction r c, past.1))
+      go (inr (w, low, high, past)) bs ds = inr (past.0, (APolynomial (bulk_at S V (coordinate S w)), coefficient w low high, past.1))
+      go (inl cs) (inr (r, c, past)) ds = inr (past.0, (APolynomial (application_bulk S rs V r), application r c, past.1))
+      go (inl cs) (inl bs) (inr (r, c, past)) = inr (past.0, (APolynomial (reduction_bulk rs (applied_prolongation S rs V r)), reduction r c, past.1))
 
 pub actions_are_within_or_past : ActionsAreWithinOrPast
 actions_are_within_or_past S rs V = told S rs V
 
 pub actions_are_not_within_and_past : ActionsAreNotWithinAndPast
-actions_are_not_within_and_past S rs V kind w cause = polynomial_apart kind cause.0 (w cause.0 cause.1) cause.2
+actions_are_not_within_and_past S rs V kind within past = work_apart (CheckMakes S rs V) (limit_of kind) within past

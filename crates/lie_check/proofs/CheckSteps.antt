@@ -3,14 +3,15 @@ use Rattle.std.specs.Prelude.{◌≡◌, ℕ, suc, ◌+◌, ◌<◌, ◌≤◌, 
 use Rattle.std.specs.List.{Contains}
 use Rattle.std.proofs.Common.{refl, sym, ap, subst, ◌∙◌, arith, get_or, ltb-true, ltb-false}
 use Rattle.std.proofs.lemmas.List.{get_or-map, length-map}
-use Rattle.lie_math.specs.FiniteSum as finite
-use Rattle.lie_math.specs.FiniteSumLaws.{of_list}
 use Rattle.lie_math.specs.Limits.{IsWithinLimits}
-use Rattle.lie_math.specs.Polynomial.{WholePolynomial, terms, 0ᴾ}
+use Rattle.lie_math.specs.Polynomial.{WholePolynomial, 0ᴾ}
 use Rattle.lie_geometry.specs.Coordinates.{Space, coordinate, coordinates_up_to}
 use Rattle.lie_geometry.specs.Invariance.{greatest_order, applied_prolongation}
 use Rattle.lie_geometry.specs.SolvedEquations.{SolvedEquation}
-use Rattle.lie_ring.specs.Causes.{IsCause}
+use Rattle.lie_systems.specs.Works.{APolynomial, IsMadePast}
+use Rattle.lie_ring.specs.Causes.{IsPast, IsCause}
+use Rattle.lie_ring.specs.declared.failures.PastKind.{PastKind}
+use Rattle.lie_ring.specs.declared.failures.PastKind.TheVariants.{Coefficient, Exponent, Terms, Order, Unknowns, Width}
 use Rattle.lie_ring.specs.declared.failures.PolyFail.{PolyFail}
 use Rattle.lie_ring.specs.declared.failures.PolyFail.TheVariants.{Past, NoMemory}
 use Rattle.lie_prolong.specs.Bulks.{bulk_at}
@@ -20,11 +21,21 @@ use Rattle.lie_solved.specs.SolvedForms.{solved_equation, solved_equations}
 use Rattle.lie_check.specs.Actions.{application_bulk, coefficient, application, reduction, AreActionsWithin, IsActionCause}
 use Rattle.lie_check.specs.Coefficients.{IsProlongationCause}
 use Rattle.lie_reduce.specs.Bulks.{reduction_bulk}
+use Rattle.lie_reduce.specs.Kinds.{limit_of}
 use Rattle.lie_check.specs.Verdicts.{remainder, IsFirstRemainder, next_verdict}
 use Rattle.lie_check.specs.declared.verdict.Verdict.{Verdict}
 use Rattle.lie_check.specs.declared.verdict.Verdict.TheVariants.{Yes, No}
 use Rattle.lie_reduce.proofs.Places.{at_place, contained, of_contained}
 use Rattle.lie_reduce.proofs.Replacing.{empty_zero, zero_empty}
+
+-- a polynomial that is past a limit is made past it
+polynomial_past : (kind : PastKind) (p : WholePolynomial) → IsPast kind p → IsMadePast (limit_of kind) (APolynomial p)
+polynomial_past Coefficient p h = h
+polynomial_past Exponent p h = h
+polynomial_past Terms p h = h
+polynomial_past Order p h = h
+polynomial_past Unknowns p h = h
+polynomial_past Width p h = h
 
 module _ (S : Space) (V : ℕ → WholePolynomial) (rules : List LeadRule) where
   abbrev equations : List SolvedEquation
@@ -59,7 +70,7 @@ module _ (S : Space) (V : ℕ → WholePolynomial) (rules : List LeadRule) where
       less l = omega arith
 
   pub coefficient_cause : (n : ℕ) (fail : PolyFail) → n ≡ greatest_order S equations → IsProlongationCause S V n fail → IsActionCause S equations V fail
-  coefficient_cause n (Past kind) e h = (bulk_at S V (coordinate S h.0), coefficient h.0 h.1 (subst (λ m. h.0 < coordinates_up_to S m) e h.2), h.3)
+  coefficient_cause n (Past kind) e h = (APolynomial (bulk_at S V (coordinate S h.0)), coefficient h.0 h.1 (subst (λ m. h.0 < coordinates_up_to S m) e h.2), polynomial_past kind _ h.3)
   coefficient_cause n NoMemory e h = tt
 
   module _ (i : ℕ) (r : LeadRule) (inside : i < length rules) (is : r ≡ get_or rules i r) where
@@ -67,11 +78,11 @@ module _ (S : Space) (V : ℕ → WholePolynomial) (rules : List LeadRule) where
     at_rule = subst (λ (x : LeadRule). Contains equations (solved_equation S x)) (sym is) (contained S rules i r inside)
 
     pub applied_cause : (fail : PolyFail) → IsCause fail (application_bulk S equations V (solved_equation S r)) → IsActionCause S equations V fail
-    applied_cause (Past kind) h = (application_bulk S equations V (solved_equation S r), application (solved_equation S r) at_rule, h)
+    applied_cause (Past kind) h = (APolynomial (application_bulk S equations V (solved_equation S r)), application (solved_equation S r) at_rule, polynomial_past kind _ h)
     applied_cause NoMemory h = tt
 
     pub reduced_cause : (fail : PolyFail) → IsCause fail (reduction_bulk equations (applied_prolongation S equations V (solved_equation S r))) → IsActionCause S equations V fail
-    reduced_cause (Past kind) h = (reduction_bulk equations (applied_prolongation S equations V (solved_equation S r)), reduction (solved_equation S r) at_rule, h)
+    reduced_cause (Past kind) h = (APolynomial (reduction_bulk equations (applied_prolongation S equations V (solved_equation S r))), reduction (solved_equation S r) at_rule, polynomial_past kind _ h)
     reduced_cause NoMemory h = tt
 
   -- ---- the verdict of the first i equations

@@ -5,7 +5,7 @@ use Rattle.std.specs.List.{range_with_len}
 use Rattle.std.proofs.lemmas.List.{get_or-map, length-map}
 use Rattle.std.proofs.lemmas.List.FromFn.{map-range_with_len_more}
 use Rattle.lie_math.specs.Polynomial.{WholePolynomial}
-use Rattle.lie_geometry.specs.Coordinates.{Space, Coordinate, number, coordinate, coordinates_up_to, jets_below}
+use Rattle.lie_geometry.specs.Coordinates.{Space, Coordinate, number, coordinate, coordinates_up_to}
 use Rattle.lie_geometry.specs.Prolongation.{coefficient_at}
 use Rattle.lie_jet.specs.Jets.{coordinate_of, IsJet}
 use Rattle.lie_jet.specs.declared.jet.Jet.{Jet}

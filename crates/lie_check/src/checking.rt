@@ -11,7 +11,6 @@ ghost use Rattle.lie_check.specs.Verdicts.{IsVerdict, next_verdict};
 use crate::coefficients::coefficients_up_to;
 use crate::remainders::remainder;
 use crate::verdict::Verdict;
-use lie_bytes::NoMemory;
 use lie_jet::{Field, JetPoly, Space};
 use lie_reduce::{applied_field, greatest_order};
 use lie_ring::PolyFail;
@@ -46,10 +45,7 @@ fn verdict_of(
     ensures fits { OnOk result (AreActionsWithin space (solved_equations space rules.now) (component field.now)) }
     ensures past { IfErr result (IsActionCause space (solved_equations space rules.now) (component field.now)) }
 {
-    let order = match greatest_order(alloc, space, rules) {
-        Ok(order) => order,
-        Err(NoMemory) => return Err(PolyFail::NoMemory),
-    };
+    let order = greatest_order(alloc, space, rules)?;
     let coefficients = coefficients_up_to(alloc, space, field, order)?;
     let mut verdict = Verdict::Yes;
     for (i, rule) in rules.iter().enumerate() {

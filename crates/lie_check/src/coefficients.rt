@@ -6,7 +6,6 @@ ghost use Rattle.lie_math.specs.VectorField.{component};
 ghost use Rattle.lie_geometry.specs.Coordinates.{coordinate};
 ghost use Rattle.lie_geometry.specs.Invariance.{IsFieldOn};
 ghost use Rattle.lie_geometry.specs.Prolongation.{coefficient_at};
-ghost use Rattle.lie_poly.specs.Failures.{IsStarved};
 ghost use Rattle.lie_prolong.specs.Bulks.{bulk_at};
 ghost use Rattle.lie_jet.specs.JetLists.{HoldsUpTo};
 ghost use Rattle.lie_check.specs.Coefficients.{numbered_coefficients, IsProlongationCause};
@@ -23,18 +22,11 @@ fn push_copy(
     alloc: Global,
     number: u32,
     p: &JetPoly,
-) -> Result<(), PolyFail>
-    ensures pushed { OnOk result (made.new.items ≡ made.old.items ++ (number, p.now) ∷ []) }
-    ensures memory { IfErr result IsStarved }
+) -> Result<(), NoMemory>
+    ensures { OnOk result (made.new.items ≡ made.old.items ++ (number, p.now) ∷ []) }
 {
-    let copy = match p.copy(alloc) {
-        Ok(copy) => copy,
-        Err(NoMemory) => return Err(PolyFail::NoMemory),
-    };
-    match made.push((number, copy)) {
-        Ok(()) => Ok(()),
-        Err(_) => Err(PolyFail::NoMemory),
-    }
+    made.push((number, p.copy(alloc)?))?;
+    Ok(())
 }
 
 /// The coefficients at the independent variables.
@@ -42,11 +34,10 @@ fn first_coefficients(
     alloc: Global,
     space: Space,
     field: &Field,
-) -> Result<Vec<(u32, JetPoly)>, PolyFail>
+) -> Result<Vec<(u32, JetPoly)>, NoMemory>
     requires { IsFieldOn space field.now }
-    ensures first { IfOk result (λ made. made.items ≡ map (λ w. (w, coefficient_at space (component field.now) (coordinate space w)))
+    ensures { IfOk result (λ made. made.items ≡ map (λ w. (w, coefficient_at space (component field.now) (coordinate space w)))
         (range_with_len 0 space.p)) }
-    ensures memory { IfErr result IsStarved }
 {
     let mut made = Vec::new(alloc);
     for i in 0..space.p {

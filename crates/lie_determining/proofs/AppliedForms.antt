@@ -24,8 +24,9 @@ use Rattle.lie_form.specs.FormLimits.{IsFormCoefficientCause}
 use Rattle.lie_jet.specs.declared.derivative.Der.{Der}
 use Rattle.std.proofs.lemmas.List.{length-map}
 use Rattle.lie_jet.proofs.PolynomialBounds.{coefficient_absolute, IsBound, plain_bound, absolute_bound}
-use Rattle.lie_form.proofs.FormBounds.{at, IsFormBound, IsPlain, cause_bound, form_trans, form_plain, form_sum, form_one, form_first, over_bound, fewer_bound, over_entries, entries_bound, front_bound, list_sizes, form_sizes, sizes_bound}
-use Rattle.lie_form.proofs.FormSteps.{part_cause, put_cause, entries_step, over_sizes}
+use Rattle.lie_geometry.proofs.AbsoluteForms.{list_absolutes}
+use Rattle.lie_form.proofs.FormBounds.{at, IsFormBound, IsPlain, cause_bound, form_trans, form_plain, form_sum, form_one, form_first, over_bound, fewer_bound, over_entries, entries_bound, front_bound, form_absolute, form_absolute_bound}
+use Rattle.lie_form.proofs.FormSteps.{part_cause, put_cause, entries_step, over_absolutes}
 use Rattle.lie_determining.specs.AppliedForms.{applied_forms_bulk}
 use Rattle.lie_determining.proofs.Bounds.{product_bound, partial_bound}
 use Rattle.lie_reduce.proofs.Products.{nonneg_times, cause_times}
@@ -48,7 +49,7 @@ pub product_put_cause : (fail : PolyFail) (E : LinearForm) (d : Derivative) (s a
 product_put_cause fail E d s a p e cause = put_cause fail E d p (absolute s *ᴾ absolute a) (subst (λ q. IsBound q (absolute s *ᴾ absolute a)) (sym e) (product_bound s a)) cause
 
 pub times_sizes : (s : WholePolynomial) (F : LinearForm) → times_form s (each_coefficient absolute F) ≡ over_entries (λ d a. form_term d (s *ᴾ absolute a)) F.list
-times_sizes s F = ap (over_entries (times_term s)) (list_sizes F) ∙ over_sizes (times_term s) F.list
+times_sizes s F = ap (over_entries (times_term s)) (list_absolutes F) ∙ over_absolutes (times_term s) F.list
 
 module _ (s : WholePolynomial) (F : LinearForm) (ts : List (Der × WholePolynomial)) (all : derivative_terms ts ≡ F.list) where
   pub products_start : (E : LinearForm) → E ≡ E +ᶠ over_entries (times_term s) (take 0 (derivative_terms ts))
@@ -69,9 +70,9 @@ module _ (s : WholePolynomial) (F : LinearForm) (ts : List (Der × WholePolynomi
       (subst (λ K. IsFormBound (each_coefficient absolute G +ᶠ times_size s (derivative_of x.0) x.1) (each_coefficient absolute E +ᶠ K)) (sym (times_sizes (absolute s) F ∙ ap (over_entries (times_size s)) (sym all)))
       (form_trans _ (each_coefficient absolute E +ᶠ over_entries (times_size s) (take (k + 1) (derivative_terms ts))) _
       (subst (IsFormBound _) (plus_assoc forms (each_coefficient absolute E) _ _ ∙ ap (λ K. each_coefficient absolute E +ᶠ K) (sym (entries_step (times_size s) ts k x h e)))
-      (form_sum _ _ _ _ (sizes_bound G _ (subst (λ K. IsFormBound K (each_coefficient absolute E +ᶠ over_entries (times_size s) (take k (derivative_terms ts)))) (sym g) (form_sum E _ _ _ (form_sizes E) (entries_bound (times_term s) (times_size s) (term_bound s) (take k (derivative_terms ts))))))
+      (form_sum _ _ _ _ (form_absolute_bound G _ (subst (λ K. IsFormBound K (each_coefficient absolute E +ᶠ over_entries (times_size s) (take k (derivative_terms ts)))) (sym g) (form_sum E _ _ _ (form_absolute E) (entries_bound (times_term s) (times_size s) (term_bound s) (take k (derivative_terms ts))))))
       (form_plain _ _ (term_bound s (derivative_of x.0) x.1))))
-      (form_sum _ _ _ _ (form_plain _ _ (form_sizes E)) (front_bound (times_size s) (λ d a. form_plain _ _ (term_bound s d a)) (derivative_terms ts) (k + 1))))) cause
+      (form_sum _ _ _ _ (form_plain _ _ (form_absolute E)) (front_bound (times_size s) (λ d a. form_plain _ _ (term_bound s d a)) (derivative_terms ts) (k + 1))))) cause
 
 -- ---- a form times a derivative
 pub absolute_partial : (w : ℕ) (p : WholePolynomial) → absolute (partial w p) ≡ partial w (absolute p)
@@ -143,6 +144,6 @@ module _ (Fs : List LinearForm) (P : WholePolynomial) where
       cause_bound fail _ _
       (form_trans _ (forms_over (numbers_below (suc k)) multiple_size) _
       (subst₂ IsFormBound (ap (λ L. each_coefficient absolute G +ᶠ times_form (partial k (absolute P)) (each_coefficient absolute L)) (sym e)) (plus_comm forms _ _)
-      (form_sum (each_coefficient absolute G) (multiple_size k) (forms_over (numbers_below k) multiple_size) (multiple_size k) (sizes_bound G _ (subst (λ K. IsFormBound K (forms_over (numbers_below k) multiple_size)) (sym g) (over_bound multiple multiple_size (numbers_below k) multiple_bound)))
+      (form_sum (each_coefficient absolute G) (multiple_size k) (forms_over (numbers_below k) multiple_size) (multiple_size k) (form_absolute_bound G _ (subst (λ K. IsFormBound K (forms_over (numbers_below k) multiple_size)) (sym g) (over_bound multiple multiple_size (numbers_below k) multiple_bound)))
       (form_plain _ _ (multiple_bound k))))
       (fewer_bound multiple_size (λ w. form_plain _ _ (multiple_bound w)) (suc k) (length Fs) (let q : suc k ≤ length Fs = omega arith in q))) cause

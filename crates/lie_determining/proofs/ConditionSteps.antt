@@ -8,17 +8,22 @@ use Rattle.lie_geometry.specs.Coordinates.{Space, coordinate, coordinates_up_to}
 use Rattle.lie_geometry.specs.Invariance.{greatest_order}
 use Rattle.lie_geometry.specs.SolvedEquations.{SolvedEquation}
 use Rattle.lie_geometry.specs.SymbolicProlongation.{symbolic_application}
+use Rattle.lie_geometry.proofs.Numbers.{count_rises}
 use Rattle.lie_systems.specs.Bulk.{IsFormWithinLimits}
-use Rattle.lie_form.specs.FormLimits.{IsFormCause}
+use Rattle.lie_systems.specs.Works.{AForm, IsMadePast}
+use Rattle.lie_form.specs.FormLimits.{IsFormPast, IsFormCause}
 use Rattle.lie_jet.specs.JetLists.{HoldsUpTo}
+use Rattle.lie_jet.specs.Jets.{IsSmall}
 use Rattle.lie_symbolic.specs.SymbolicBulks.{symbolic_bulk_at}
+use Rattle.lie_ring.specs.declared.failures.PastKind.{PastKind}
+use Rattle.lie_ring.specs.declared.failures.PastKind.TheVariants.{Coefficient, Exponent, Terms, Order, Unknowns, Width}
 use Rattle.lie_ring.specs.declared.failures.PolyFail.{PolyFail}
 use Rattle.lie_ring.specs.declared.failures.PolyFail.TheVariants.{Past, NoMemory}
 use Rattle.lie_solved.specs.declared.solved.LeadRule.{LeadRule}
 use Rattle.lie_solved.specs.SolvedForms.{solved_equation, solved_equations}
-use Rattle.lie_determining.specs.AppliedForms.{IsSymbolicProlongationCause}
 use Rattle.lie_reduce.proofs.Places.{contained, of_contained}
 use Rattle.lie_reduce.specs.Bulks.{absolute_equation, absolute_equations}
+use Rattle.lie_reduce.specs.Kinds.{limit_of}
 use Rattle.lie_determining.specs.Conditions.{condition_of, IsConditionWithin, IsConditionCause, AreFormActionsWithin, IsFormActionCause}
 use Rattle.lie_determining.specs.Openings.{coefficient, application, reduction}
 use Rattle.lie_determining.specs.SymbolicBulks.{symbolic_application_bulk, symbolic_reduction_bulk}
@@ -33,6 +38,19 @@ sized_at S rules sized i r q all h e f =
     inside : i < length sized
     inside = let a = length-map rules (solved_equation S) in let b = length-map sized (solved_equation S) in let c = ap length all in let d = length-map (solved_equations S rules) absolute_equation in omega arith
 
+-- the rule at a place is one of them
+pub rule_inside : (S : Space) (rules : List LeadRule) (i : ℕ) (r : LeadRule) → i < length rules → r ≡ get_or rules i r → Contains (solved_equations S rules) (solved_equation S r)
+rule_inside S rules i r h e = subst (λ (x : LeadRule). Contains (solved_equations S rules) (solved_equation S x)) (sym e) (contained S rules i r h)
+
+-- a form that is past a limit is made past it
+form_past : (kind : PastKind) (E : LinearForm) → IsFormPast kind E → IsMadePast (limit_of kind) (AForm E)
+form_past Coefficient E h = h
+form_past Exponent E h = h
+form_past Terms E h = h
+form_past Order E h = h
+form_past Unknowns E h = h
+form_past Width E h = h
+
 -- ---- one equation
 module _ (S : Space) (rs : List SolvedEquation) (r : SolvedEquation) where
   pub applied_cause : (fail : PolyFail) → IsFormCause fail (symbolic_application_bulk S rs r) → IsConditionCause S rs r fail
@@ -44,12 +62,11 @@ module _ (S : Space) (rs : List SolvedEquation) (r : SolvedEquation) where
   reduced_cause NoMemory E e h = tt
 
   pub condition_cause : (fail : PolyFail) → Contains rs r → IsConditionCause S rs r fail → IsFormActionCause S rs fail
-  condition_cause (Past kind) c h = elim h [ inl p ↦ (symbolic_application_bulk S rs r, application r c, p) | inr p ↦ (symbolic_reduction_bulk rs (symbolic_application S rs r), reduction r c, p) ]
+  condition_cause (Past kind) c h = elim h [
+    | inl p ↦ (AForm (symbolic_application_bulk S rs r), application r c, form_past kind _ p)
+    | inr p ↦ (AForm (symbolic_reduction_bulk rs (symbolic_application S rs r)), reduction r c, form_past kind _ p)
+  ]
   condition_cause NoMemory c h = tt
-
-pub coefficient_cause : (S : Space) (rs : List SolvedEquation) (n : ℕ) (fail : PolyFail) → n ≡ greatest_order S rs → IsSymbolicProlongationCause S n fail → IsFormActionCause S rs fail
-coefficient_cause S rs n (Past kind) e h = (symbolic_bulk_at S (coordinate S h.0), coefficient h.0 h.1 (subst (λ m. h.0 < coordinates_up_to S m) e h.2), h.3)
-coefficient_cause S rs n NoMemory e h = tt
 
 -- ---- all of them
 module _ (S : Space) (rules : List LeadRule) where
@@ -79,13 +96,16 @@ module _ (S : Space) (rules : List LeadRule) where
       by true e = h k d (ltb-true k i e)
       by false e = let q : i ≤ k = ltb-false k i e in subst (λ m. IsConditionWithin S equations (solved_equation S (get_or rules m d))) (let z : i ≡ k = omega arith in z) (g d)
 
-  pub all_done : (n i : ℕ) → n ≡ greatest_order S equations → HoldsUpTo S n (λ c. IsFormWithinLimits (symbolic_bulk_at S c)) → length rules ≤ i → AreDone i → AreFormActionsWithin S equations
-  all_done n i e low h done B (coefficient w after within) = low w after (subst (λ m. w < coordinates_up_to S m) (sym e) within)
-  all_done n i e low h done B (application r c) = of_contained S rules (λ x. IsFormWithinLimits (symbolic_application_bulk S equations x)) (λ k d l. (done k d (less l)).application) r c
+  pub all_done : (n i : ℕ) → IsSmall S → n ≡ greatest_order S equations → n ≤ 6 → HoldsUpTo S 6 (λ c. IsFormWithinLimits (symbolic_bulk_at S c)) → length rules ≤ i → AreDone i → AreFormActionsWithin S equations
+  all_done n i small e few low h done B (coefficient w after within) = low w after (less (subst (λ m. w < coordinates_up_to S m) (sym e) within) (count_rises S small.some_p small.some_q n 6 few))
+    where
+      less : {a b c : ℕ} → a < b → b ≤ c → a < c
+      less h k = omega arith
+  all_done n i small e few low h done B (application r c) = of_contained S rules (λ x. IsFormWithinLimits (symbolic_application_bulk S equations x)) (λ k d l. (done k d (less l)).application) r c
     where
       less : {k : ℕ} → k < length rules → k < i
       less l = omega arith
-  all_done n i e low h done B (reduction r c) = of_contained S rules (λ x. IsFormWithinLimits (symbolic_reduction_bulk equations (symbolic_application S equations x))) (λ k d l. (done k d (less l)).reduction) r c
+  all_done n i small e few low h done B (reduction r c) = of_contained S rules (λ x. IsFormWithinLimits (symbolic_reduction_bulk equations (symbolic_application S equations x))) (λ k d l. (done k d (less l)).reduction) r c
     where
       less : {k : ℕ} → k < length rules → k < i
       less l = omega arith

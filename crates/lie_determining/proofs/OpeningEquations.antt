@@ -18,8 +18,10 @@ use Rattle.lie_systems.specs.Normalised.{primitive}
 use Rattle.lie_systems.specs.EquationOrder.{equation_cmp}
 use Rattle.lie_systems.proofs.EquationOrder.{equation_cmp_total}
 use Rattle.lie_systems.proofs.Primitive.{multiple_of_primitive}
-use Rattle.lie_determining.specs.Openings.{AreOpeningEquations, IsNormalisedEquation, IsOpeningSystem, IsLargeOpening}
+use Rattle.lie_determining.specs.Openings.{AreOpeningEquations, IsNormalisedEquation, IsOpeningSystem, opened, IsOpeningPast}
 use Rattle.lie_systems.specs.Bulk.{system_triple_count}
+use Rattle.lie_systems.specs.Works.{Triples}
+use Rattle.lie_ring.specs.declared.failures.PastKind.TheVariants.{Terms}
 use Rattle.lie_determining.specs.Equations.{AreEquationsOf, IsNormalisedPart, part_of_form, IsSystemOf, IsLargeSystem}
 use Rattle.lie_determining.proofs.SortedLists.{all_of_map, any_of_map, every_of, same_elements}
 
@@ -42,8 +44,8 @@ module _ (S : Space) (rs : List SolvedEquation) where
   pub opening_of_system : (T : LinearSystem) → IsSystemOf S (conditions S rs) T → IsOpeningSystem S rs T
   opening_of_system T h = (h.0, opening_of_equations h.0 h.1, h.2)
 
-  pub large_of_system : IsLargeSystem S (conditions S rs) → IsLargeOpening S rs
-  large_of_system h = (h.0, opening_of_system h.0 h.1, h.2)
+  pub large_of_system : IsLargeSystem S (conditions S rs) → IsOpeningPast S rs Terms
+  large_of_system h = (Triples (system_triple_count h.0), opened h.0 (opening_of_system h.0 h.1), h.2)
 
   -- ---- they are determining equations
   pub determining_of_opening : (es : List LinearForm) → AreOpeningEquations S rs es → IsDetermining S rs es

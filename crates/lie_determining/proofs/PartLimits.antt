@@ -181,17 +181,3 @@ module _ (A : ℕ → Bool) (μ : Monomial) where
     orders = subst (All (λ (t : Triple). order t.0.counts ≤ greatest_form_order)) (sym (triples_of_bulk E)) (All-from_recursion (λ (t : Triple). order t.0.counts ≤ greatest_form_order) _ (orders_at (triples E) (recursion_from_All (λ (t : Triple). order t.0.counts ≤ greatest_form_order) (triples E) w.orders)));
     few = subst (λ ts. length ts ≤ 1000000) (sym (triples_of_bulk E)) (let s = shorter (triples E) in let f = w.few in omega arith);
   }
-
--- what is within the limits is not past one
-starved : (fail : PolyFail) (E : LinearForm) → IsFormWithinLimits E → IsFormCause fail E → IsStarved fail
-starved (Past Coefficient) E w a = absurd (not_within_and_past OnCoefficients (AForm E) w a)
-starved (Past Exponent) E w a = absurd (not_within_and_past OnExponents (AForm E) w a)
-starved (Past Terms) E w a = absurd (not_within_and_past OnTerms (AForm E) w a)
-starved (Past Order) E w a = absurd (not_within_and_past OnOrders (AForm E) w a)
-starved (Past Unknowns) E w a = absurd a
-starved (Past Width) E w a = absurd a
-starved NoMemory E w a = tt
-
-pub sum_starved : {X : Type 0} (E : LinearForm) → IsFormWithinLimits E → (r : Result X PolyFail) → IfErr r (λ fail. IsFormCause fail E) → IfErr r IsStarved
-sum_starved E w (Ok x) c = tt
-sum_starved E w (Err fail) c = starved fail E w c

@@ -22,9 +22,10 @@ use Rattle.lie_jet.specs.declared.derivative.Der.{Der}
 use Rattle.lie_jet.proofs.Absolutes.{absolute_twice}
 use Rattle.lie_jet.proofs.ListPlaces.{take_map}
 use Rattle.lie_jet.proofs.PolynomialBounds.{IsBound}
-use Rattle.lie_form.proofs.FormBounds.{at, IsFormBound, cause_bound, form_trans, form_plain, form_sum, form_one, over_entries, entries_bound, front_bound, sizes_of, list_sizes, sizes_bound}
+use Rattle.lie_geometry.proofs.AbsoluteForms.{entry_absolutes, list_absolutes}
+use Rattle.lie_form.proofs.FormBounds.{at, IsFormBound, cause_bound, form_trans, form_plain, form_sum, form_one, over_entries, entries_bound, front_bound, form_absolute_bound}
 use Rattle.lie_form.proofs.FormCauses.{coefficient_cause}
-use Rattle.lie_form.proofs.FormSteps.{part_cause, put_cause, entries_step, over_sizes}
+use Rattle.lie_form.proofs.FormSteps.{part_cause, put_cause, entries_step, over_absolutes}
 use Rattle.lie_reduce.proofs.GreatestExponents.{degree_absolute}
 use Rattle.lie_reduce.specs.Bulks.{absolute_equations, reduction_bulk_by}
 use Rattle.lie_solved.specs.declared.solved.LeadRule.{LeadRule}
@@ -43,9 +44,9 @@ form_exponents E = fun_ext (λ w. go w E.list)
     go w (e ∷ es) = ap (max (degree_in w e.1)) (go w es)
 
 sizes_degree : (w : ℕ) (E : LinearForm) → degree_in_form w (each_coefficient absolute E) ≡ degree_in_form w E
-sizes_degree w E = ap (sum_of_entries maxima (λ d a. degree_in w a)) (list_sizes E) ∙ go E.list
+sizes_degree w E = ap (sum_of_entries maxima (λ d a. degree_in w a)) (list_absolutes E) ∙ go E.list
   where
-    go : (es : List (Derivative × WholePolynomial)) → sum_of_entries maxima (λ d a. degree_in w a) (sizes_of es) ≡ sum_of_entries maxima (λ d a. degree_in w a) es
+    go : (es : List (Derivative × WholePolynomial)) → sum_of_entries maxima (λ d a. degree_in w a) (entry_absolutes es) ≡ sum_of_entries maxima (λ d a. degree_in w a) es
     go [] = refl
     go (e ∷ es) = ap₂ max (degree_absolute w e.1) (go es)
 
@@ -57,16 +58,16 @@ module _ (rs qs : List SolvedEquation) (sized : qs ≡ absolute_equations rs) (E
   pub bulk_is : symbolic_reduced qs A ≡ symbolic_reduction_bulk rs E
   bulk_is =
       ap (λ x. each_coefficient (reduced_by x (λ w. degree_in_form w A)) A) sized ∙ ap (λ e. each_coefficient (reduced_by (absolute_equations rs) e) A) same_exponents
-      ∙ ap (λ F. over_entries (λ d a. form_term d (reduced_by (absolute_equations rs) (λ w. degree_in_form w E) a)) F) (ap (λ (F : LinearForm). F.list) sizes ∙ list_sizes E)
-      ∙ over_sizes (λ d a. form_term d (reduced_by (absolute_equations rs) (λ w. degree_in_form w E) a)) E.list
+      ∙ ap (λ F. over_entries (λ d a. form_term d (reduced_by (absolute_equations rs) (λ w. degree_in_form w E) a)) F) (ap (λ (F : LinearForm). F.list) sizes ∙ list_absolutes E)
+      ∙ over_absolutes (λ d a. form_term d (reduced_by (absolute_equations rs) (λ w. degree_in_form w E) a)) E.list
 
   -- and it is its own bulk
   pub same_bulk : symbolic_reduction_bulk qs A ≡ symbolic_reduction_bulk rs E
   same_bulk =
       ap (λ x. each_coefficient (reduction_bulk_by x (λ w. degree_in_form w A)) A) sized ∙ ap (λ e. each_coefficient (reduction_bulk_by (absolute_equations rs) e) A) same_exponents
       ∙ ap (λ x. each_coefficient (λ a. reduced_by x (λ w. degree_in_form w E) (absolute a)) A) (absolute-equations rs)
-      ∙ ap (λ F. over_entries (λ d a. form_term d (reduced_by (absolute_equations rs) (λ w. degree_in_form w E) (absolute a))) F) (ap (λ (F : LinearForm). F.list) sizes ∙ list_sizes E)
-      ∙ over_sizes (λ d a. form_term d (reduced_by (absolute_equations rs) (λ w. degree_in_form w E) (absolute a))) E.list
+      ∙ ap (λ F. over_entries (λ d a. form_term d (reduced_by (absolute_equations rs) (λ w. degree_in_form w E) (absolute a))) F) (ap (λ (F : LinearForm). F.list) sizes ∙ list_absolutes E)
+      ∙ over_absolutes (λ d a. form_term d (reduced_by (absolute_equations rs) (λ w. degree_in_form w E) (absolute a))) E.list
       ∙ ap (λ φ. over_entries φ E.list) (fun_ext (λ d. fun_ext (λ a. ap (λ p. form_term d (reduced_by (absolute_equations rs) (λ w. degree_in_form w E) p)) (absolute_twice a))))
 
   pub bulk_cause : (fail : PolyFail) → IsFormCoefficientCause fail (symbolic_reduction_bulk qs A) → IsFormCause fail (symbolic_reduction_bulk rs E)
@@ -107,7 +108,7 @@ module _ (rs : List SolvedEquation) (e : ℕ → ℕ) (bounded : (a : WholePolyn
         (subst (IsFormBound _) (ap (over_entries bulk_term) all)
         (form_trans _ (over_entries bulk_term (take (k + 1) (derivative_terms ts))) _
         (subst (IsFormBound _) (sym (entries_step bulk_term ts k x h is))
-        (form_sum _ _ _ _ (sizes_bound G _ (subst (λ K. IsFormBound K (over_entries bulk_term (take k (derivative_terms ts)))) (sym g) (entries_bound reduced_term bulk_term each_bound (take k (derivative_terms ts)))))
+        (form_sum _ _ _ _ (form_absolute_bound G _ (subst (λ K. IsFormBound K (over_entries bulk_term (take k (derivative_terms ts)))) (sym g) (entries_bound reduced_term bulk_term each_bound (take k (derivative_terms ts)))))
         (form_plain _ _ (each_bound (derivative_of x.0) x.1))))
         (front_bound bulk_term (λ d a. form_plain _ _ (each_bound d a)) (derivative_terms ts) (k + 1)))) cause
 

@@ -6,10 +6,12 @@ use Rattle.lie_geometry.specs.DeterminingEquations.{symbolic_reduced}
 use Rattle.lie_geometry.specs.SolvedEquations.{SolvedEquation}
 use Rattle.lie_geometry.specs.SymbolicProlongation.{symbolic_application}
 use Rattle.lie_systems.specs.Bulk.{IsFormWithinLimits}
+use Rattle.lie_systems.specs.Works.{IsWorkWithin, IsWorkPast}
 use Rattle.lie_form.specs.FormLimits.{IsFormPast}
 use Rattle.lie_ring.specs.declared.failures.PolyFail.{PolyFail}
 use Rattle.lie_ring.specs.declared.failures.PolyFail.TheVariants.{Past, NoMemory}
-use Rattle.lie_determining.specs.Openings.{IsFormActionBulk}
+use Rattle.lie_reduce.specs.Kinds.{limit_of}
+use Rattle.lie_determining.specs.Openings.{ConditionsMake}
 use Rattle.lie_determining.specs.SymbolicBulks.{symbolic_application_bulk, symbolic_reduction_bulk}
 
 -- the prolonged field applied to an equation, and reduced
@@ -32,9 +34,9 @@ IsConditionCause S rs r NoMemory = Unit {0}
 
 -- no action is past a limit
 abbrev pub AreFormActionsWithin : Space → List SolvedEquation → Type 0
-AreFormActionsWithin S rs = (B : LinearForm) → IsFormActionBulk S rs B → IsFormWithinLimits B
+AreFormActionsWithin S rs = IsWorkWithin (ConditionsMake S rs)
 
 -- the answer is for want of memory, or tells a limit that an action is past
 abbrev pub IsFormActionCause : Space → List SolvedEquation → PolyFail → Type 0
-IsFormActionCause S rs (Past kind) = (B : LinearForm) × IsFormActionBulk S rs B × IsFormPast kind B
+IsFormActionCause S rs (Past kind) = IsWorkPast (ConditionsMake S rs) (limit_of kind)
 IsFormActionCause S rs NoMemory = Unit {0}

@@ -16,18 +16,17 @@ ghost use Rattle.lie_determining.specs.Conditions.{condition_of, conditions_of, 
 ghost use Rattle.lie_determining.specs.Conditions.{IsConditionCause, AreFormActionsWithin, IsFormActionCause};
 ghost use Rattle.lie_reduce.specs.SolvedRule.{IsSolvedRule};
 ghost use Rattle.lie_reduce.specs.Reductions.{CanReduce};
-ghost use Rattle.std.specs.List.{AllByRecursion as Every};
+ghost use Rattle.std.specs.List.{AllByRecursion as Every, Contains};
 ghost use Rattle.lie_determining.specs.SymbolicBulks.{symbolic_application_bulk};
 
-use crate::coordinate_forms::coordinate_forms;
 use crate::symbolic_application::symbolic_application;
 use crate::symbolic_reduction::symbolic_reduction;
-use lie_bytes::NoMemory;
 use lie_form::SymForm;
-use lie_jet::{Space, jet_number};
-use lie_reduce::{absolute_rules, greatest_order};
+use lie_jet::{Space, jet_number, space_is_small};
+use lie_reduce::{absolute_rules, greatest_order, occurring_numbers};
 use lie_ring::{PolyFail, Ring, Whole};
 use lie_solved::LeadRule;
+use lie_symbolic::{coefficients_are_within_limits, prolong_sym};
 use std::alloc::Global;
 
 /// The forms with the absolute values of all coefficients.
@@ -37,17 +36,14 @@ fn with_absolute_values(alloc: Global, forms: &[SymForm]) -> Result<Vec<SymForm>
 {
     let mut made = Vec::new(alloc);
     for form in forms {
-        let absolute = form.absolute(alloc)?;
-        if made.push(absolute).is_err() {
-            return Err(PolyFail::NoMemory);
-        }
+        made.push(form.absolute(alloc)?)?;
     }
     Ok(made)
 }
 
 /// The field of unknown functions applied to the equation of a rule: first with absolute values, where nothing cancels, and then
-/// truly. The forms are its coefficients at all coordinates up to the greatest order in the equations of the rules; the second rule
-/// and the second forms are the first ones with absolute values.
+/// truly. The forms are its coefficients at the coordinates that occur in the equations of the rules, of which that of the rule is
+/// one; the second rule and the second forms are the first ones with absolute values.
 fn applied(
     alloc: Global,
     space: Space,
@@ -58,9 +54,10 @@ fn applied(
     absolute_forms: &[SymForm],
 ) -> Result<SymForm, PolyFail>
     requires rule { IsSolvedRule space rule.now }
+    requires inside { Contains (solved_equations space rules.now) (solved_equation space rule.now) }
     requires absolutes { solved_equation space absolutes.now ≡ absolute_equation (solved_equation space rule.now) }
     requires order { greatest_order_of space (solved_equations space rules.now) ≤ 6 }
-    requires forms { AreCoordinateForms space (greatest_order_of space (solved_equations space rules.now)) forms.now }
+    requires forms { AreCoordinateForms space (solved_equations space rules.now) forms.now }
     requires absolute_forms { absolute_forms.now ≡ map (each_coefficient absolute) forms.now }
     ensures value { IfOk result (λ made. made ≡ application_of space (solved_equations space rules.now) (solved_equation space rule.now)) }
     ensures fits { OnOk result (IsFormWithinLimits (symbolic_application_bulk space (solved_equations space rules.now)
@@ -89,7 +86,7 @@ fn condition(
     requires ready { CanReduce space absolutes.now }
     requires place { place < length rules.now }
     requires order { greatest_order_of space (solved_equations space rules.now) ≤ 6 }
-    requires forms { AreCoordinateForms space (greatest_order_of space (solved_equations space rules.now)) forms.now }
+    requires forms { AreCoordinateForms space (solved_equations space rules.now) forms.now }
     requires absolute_forms { absolute_forms.now ≡ map (each_coefficient absolute) forms.now }
     ensures value { IfOk result (λ made. (d : ARule) → made ≡ condition_of space (solved_equations space rules.now)
         (solved_equation space (slice_index_or rules.now place d))) }
@@ -114,7 +111,8 @@ fn condition(
 /// The reduced conditions of the equations of the rules.
 ///
 /// `Past` comes exactly where an action is past a limit: a prolonged coefficient, or for an equation the prolonged field applied to
-/// it, or the reduction of that, each with absolute values and plus signs from the true results before it.
+/// it, or the reduction of that, each with absolute values and plus signs from the true results before it. No prolonged coefficient
+/// is past one (`coefficients_are_within_limits`), so those alone are made that occur in an equation.
 pub fn reduced_conditions(
     alloc: Global,
     space: Space,
@@ -126,11 +124,11 @@ pub fn reduced_conditions(
     ensures fits { OnOk result (AreFormActionsWithin space (solved_equations space rules.now)) }
     ensures past { IfErr result (IsFormActionCause space (solved_equations space rules.now)) }
 {
-    let order = match greatest_order(alloc, space, rules) {
-        Ok(order) => order,
-        Err(NoMemory) => return Err(PolyFail::NoMemory),
-    };
-    let forms = coordinate_forms(alloc, space, order)?;
+    space_is_small(space);
+    coefficients_are_within_limits(space);
+    let order = greatest_order(alloc, space, rules)?;
+    let numbers = occurring_numbers(alloc, space, rules)?;
+    let forms = prolong_sym(alloc, space, order, numbers.as_slice())?;
     let absolute_forms = with_absolute_values(alloc, forms.as_slice())?;
     let absolutes = absolute_rules(alloc, rules)?;
     let mut made = Vec::new(alloc);
@@ -144,9 +142,7 @@ pub fn reduced_conditions(
             forms.as_slice(),
             absolute_forms.as_slice(),
         )?;
-        if made.push(next).is_err() {
-            return Err(PolyFail::NoMemory);
-        }
+        made.push(next)?;
     }
     Ok(made)
 }

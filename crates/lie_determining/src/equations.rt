@@ -17,7 +17,7 @@ use crate::unknowns::{general, unknowns};
 use lie_bytes::NoMemory;
 use lie_form::SymForm;
 use lie_jet::{Der, Space};
-use lie_lin::{LinEq, LinSystem, lead, primitive, triple_count};
+use lie_lin::{LinEq, LinSystem, form_triple_count, lead, primitive};
 use lie_ring::{Mono, PastKind, PolyFail, Whole};
 use std::alloc::Global;
 
@@ -34,10 +34,7 @@ fn put_part(
     requires sorted { IsStrictlySortedBy equation_cmp equations.old.items }
     ensures { OnOk result (Adds (IsEquationOf (sum_of_triples (triples_of triples.now))) equations.old.items equations.new.items) }
 {
-    let part = match sum_of(alloc, triples) {
-        Ok(part) => part,
-        Err(_) => return Err(NoMemory),
-    };
+    let part = sum_of(alloc, triples)?;
     match lead(&part) {
         None => Ok(()),
         Some(_) => {
@@ -99,7 +96,7 @@ fn count_triples(list: &[LinEq], others: u128) -> Option<u128>
 {
     let mut count = others;
     for eq in list {
-        count += triple_count(eq);
+        count += form_triple_count(eq);
         if count > MAX_TRIPLES {
             return None;
         }
@@ -135,18 +132,9 @@ pub fn opening_system(
     ensures few { IfOk result (λ made. system_triple_count made.system ≤ 1000000) }
     ensures past { IfErr result (λ fail. IsSystemCause space conditions.now fail) }
 {
-    let equations = match equations_of(alloc, space, conditions) {
-        Ok(equations) => equations,
-        Err(_) => return Err(PolyFail::NoMemory),
-    };
-    let unknowns = match unknowns(alloc, space) {
-        Ok(unknowns) => unknowns,
-        Err(_) => return Err(PolyFail::NoMemory),
-    };
-    let general = match general(alloc, space) {
-        Ok(general) => general,
-        Err(_) => return Err(PolyFail::NoMemory),
-    };
+    let equations = equations_of(alloc, space, conditions)?;
+    let unknowns = unknowns(alloc, space)?;
+    let general = general(alloc, space)?;
     match count_all(equations.as_slice(), general.as_slice()) {
         None => Err(PolyFail::Past(PastKind::Terms)),
         Some(_) => {

@@ -3,7 +3,6 @@
 
 mod buckets;
 mod conditions;
-mod coordinate_forms;
 mod equations;
 pub mod laws;
 mod opening;

@@ -8,7 +8,7 @@ ghost use Rattle.lie_determining.specs.Openings.{IsOpeningSystem, IsOpeningWithi
 
 use crate::conditions::reduced_conditions;
 use crate::equations::opening_system;
-use crate::parts::known_small;
+use lie_jet::space_is_small;
 use lie_lin::LinSystem;
 use lie_ring::PolyFail;
 use lie_solved::Solved;
@@ -30,7 +30,7 @@ pub fn determining(alloc: Global, solved: &Solved) -> Result<LinSystem, PolyFail
     ensures past { IfErr result (IsOpeningCause solved.now.system.space (equations_of solved.now)) }
 {
     let space = solved.system.space;
-    known_small(space);
+    space_is_small(space);
     let conditions = reduced_conditions(alloc, space, solved.rules.as_slice())?;
     opening_system(alloc, space, conditions.as_slice())
 }

@@ -1,35 +1,26 @@
 // The triples of a condition by their monomials in the jets.
 ghost use Rattle.std.specs.Prelude.{◌≡◌, ◌≤◌, ◌+◌, ◌++◌, ◌∷◌, [], cond, not, IfOk, OnOk};
 ghost use Rattle.std.specs.List.Sorted.{IsStrictlySortedBy};
-ghost use Rattle.lie_math.specs.FiniteSum.{IsCanonical};
-ghost use Rattle.lie_math.specs.Monomial.{powers, monomial_cmp, monomial_of};
+ghost use Rattle.lie_math.specs.Monomial.{monomial_cmp};
 ghost use Rattle.lie_geometry.specs.DeterminingEquations.{restrict};
 ghost use Rattle.lie_geometry.specs.Prolongation.{is_in_z};
 ghost use Rattle.lie_systems.specs.Triples.{triples, triples_with};
 ghost use Rattle.lie_jet.specs.Derivatives.{derivative_of};
-ghost use Rattle.lie_jet.specs.Jets.{IsSmall};
 ghost use Rattle.lie_determining.specs.Parts.{AreBucketsOf, HaveMore, monomials_of, split_triple, split_triples};
 
 use crate::buckets::{Bucket, put_triple};
 use lie_bytes::NoMemory;
 use lie_form::SymForm;
-use lie_jet::{Der, JetPoly, Space};
+use lie_jet::{Der, JetPoly, Space, space_is_small};
 use lie_ring::{Mono, Polynomial, Whole};
 use std::alloc::Global;
-
-/// There are 1 to 4 variables of each kind: what every space tells.
-pub fn known_small(space: Space)
-    ensures { IsSmall space }
-{
-    let _independent = &space.p;
-}
 
 /// The number of the variables z.
 pub fn count_z(space: Space) -> u32
     ensures count { result ≡ space.p + space.q }
     ensures low { result ≤ 8 }
 {
-    known_small(space);
+    space_is_small(space);
     u32::from(space.p) + u32::from(space.q)
 }
 
@@ -52,7 +43,7 @@ fn inner(alloc: Global, space: Space, mono: &Mono) -> Result<Mono, NoMemory>
     for pair in mono.pairs() {
         push_if(&mut pairs, *pair, pair.0 < bound)?;
     }
-    monomial_of(alloc, pairs.as_slice())
+    Mono::of_pairs(alloc, pairs.as_slice())
 }
 
 /// The factors of a monomial with jets of order 1 or more.
@@ -65,18 +56,7 @@ fn outer(alloc: Global, space: Space, mono: &Mono) -> Result<Mono, NoMemory>
         let is_in_z = pair.0 < bound;
         push_if(&mut pairs, *pair, !is_in_z)?;
     }
-    monomial_of(alloc, pairs.as_slice())
-}
-
-/// The monomial with these pairs.
-fn monomial_of(alloc: Global, pairs: &[(u32, u32)]) -> Result<Mono, NoMemory>
-    requires { IsCanonical powers pairs.now }
-    ensures { IfOk result (λ mono. mono ≡ monomial_of pairs.now) }
-{
-    match Mono::new(alloc, pairs) {
-        Ok(Some(mono)) => Ok(mono),
-        _ => Err(NoMemory),
-    }
+    Mono::of_pairs(alloc, pairs.as_slice())
 }
 
 /// Puts the terms of a derivative's coefficient into buckets.

@@ -12,7 +12,7 @@ ghost use Rattle.lie_determining.specs.AppliedForms.{applied_forms, applied_form
 
 use lie_form::SymForm;
 use lie_jet::{Der, JetPoly};
-use lie_reduce::slope;
+use lie_reduce::derivative_of_sides;
 use lie_ring::{PolyFail, Polynomial, Whole};
 use lie_solved::LeadRule;
 use std::alloc::Global;
@@ -62,7 +62,7 @@ fn put_multiple(
     if form.terms().len() == 0 {
         return Ok(());
     }
-    let slope = slope(alloc, rule, lead, sign, w)?;
+    let slope = derivative_of_sides(alloc, rule, lead, sign, w)?;
     put_products(sum, alloc, &slope, form)
 }
 

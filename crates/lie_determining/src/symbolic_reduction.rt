@@ -30,9 +30,7 @@ fn coefficients(alloc: Global, form: &SymForm) -> Result<Vec<JetPoly>, NoMemory>
     let mut made = Vec::new(alloc);
     for term in form.terms() {
         let copy = term.1.copy(alloc)?;
-        if made.push(copy).is_err() {
-            return Err(NoMemory);
-        }
+        made.push(copy)?;
     }
     Ok(made)
 }
@@ -71,14 +69,8 @@ fn reduced_form(
     ensures past { IfErr result (λ fail. IsFormCoefficientCause fail
         (symbolic_reduction_bulk (solved_equations space rules.now) form.now)) }
 {
-    let polynomials = match coefficients(alloc, form) {
-        Ok(polynomials) => polynomials,
-        Err(NoMemory) => return Err(PolyFail::NoMemory),
-    };
-    let greatest = match greatest_exponents(alloc, space, rules, polynomials.as_slice()) {
-        Ok(greatest) => greatest,
-        Err(NoMemory) => return Err(PolyFail::NoMemory),
-    };
+    let polynomials = coefficients(alloc, form)?;
+    let greatest = greatest_exponents(alloc, space, rules, polynomials.as_slice())?;
     let mut sum = SymForm::zero(alloc);
     for term in form.terms() {
         put_reduced(&mut sum, alloc, space, rules, greatest.as_slice(), term)?;

@@ -61,10 +61,7 @@ fn unknown(alloc: Global, place: u32) -> Result<LinEq, NoMemory>
     requires { place < 8 }
     ensures { IfOk result (λ form. form ≡ unknown place) }
 {
-    match sum_of(alloc, &[(plain(place + 1), Mono::one(alloc), Whole::one())]) {
-        Ok(form) => Ok(form),
-        Err(_) => Err(NoMemory),
-    }
+    sum_of(alloc, &[(plain(place + 1), Mono::one(alloc), Whole::one())])
 }
 
 /// The general forms: the unknown s + 1 at the component s.

@@ -1,5 +1,5 @@
 -- Rules with the absolute values of all coefficients, and reduction by them.
-use Rattle.std.specs.Prelude.{◌≡◌, ℕ, ◌+◌, ◌<◌, ◌≤◌, ℤ, List, [], ◌∷◌, ◌++◌, length, take, get_or, Bool, true, pos, unsigned_abs, if◌then◌else◌}
+use Rattle.std.specs.Prelude.{◌≡◌, ℕ, ◌+◌, ◌<◌, ◌≤◌, ℤ, List, [], ◌∷◌, ◌++◌, length, take, get_or, pos, unsigned_abs}
 use Rattle.std.proofs.Common.{refl, sym, ap, ap₂, subst, ◌∙◌, arith}
 use Rattle.lie_math.proofs.Integer.{unsigned_abs_zero}
 use Rattle.lie_math.specs.Limits.{absolute}
@@ -57,9 +57,6 @@ factors_are (r ∷ rs) (s ∷ ss) h k = ((λ z. k.0 (unsigned_abs_zero r.c (ap u
 
 pub absolute_rules_ready : (S : Space) (rs ss : List LeadRule) → AreAbsoluteRules rs ss → CanReduce S rs → CanReduce S ss
 absolute_rules_ready S rs ss h k = record { jets = jets_are S rs ss h k.jets; factors = factors_are rs ss h k.factors }
-
-pub pushed : {X : Type 0} (new more old : List X) (b : Bool) → new ≡ (if b then more else old) → b ≡ true → new ≡ more
-pushed new more old b e h = e ∙ ap (λ t. if t then more else old) h
 
 -- ---- absolute values of absolute values
 pub absolute-equations : (rs : List SolvedEquation) → absolute_equations (absolute_equations rs) ≡ absolute_equations rs

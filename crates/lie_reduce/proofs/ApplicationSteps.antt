@@ -16,8 +16,8 @@ use Rattle.lie_ring.specs.Causes.{IsCause}
 use Rattle.lie_ring.specs.declared.failures.PolyFail.{PolyFail}
 use Rattle.lie_poly.proofs.SumSteps.{cause_covered}
 use Rattle.lie_jet.proofs.TotalSteps.{size_times}
-use Rattle.lie_prolong.proofs.Absolutes.{bounded_signed, absolute-nonneg}
-use Rattle.lie_prolong.proofs.Positive.{IsPositive, positive_bounded}
+use Rattle.lie_jet.proofs.BoundedPolynomials.{bounded_signed, absolute-nonneg}
+use Rattle.lie_jet.proofs.PositiveMaps.{IsPositive, positive_bounded}
 use Rattle.lie_jet.proofs.TotalBounds.{term_bound}
 use Rattle.lie_reduce.specs.Applications.{sides, applied_to, absolute_coefficients}
 use Rattle.lie_reduce.proofs.PowerSteps.{times_one, absolute_proper, absolute_plain}

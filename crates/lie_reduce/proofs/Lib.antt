@@ -10,3 +10,5 @@ pub mod GreatestExponents
 pub mod ApplicationSteps
 mod AbsoluteSides
 pub mod GreatestVariables
+mod OccurringNumbers
+pub mod WorkKinds

@@ -1,26 +1,18 @@
 -- Products by powers, one factor at a time.
-use Rattle.std.specs.Prelude.{◌≡◌, ℕ, zero, suc, ◌+◌, ◌-◌, ◌<◌, ◌≤◌, ◌^◌, List, [], ◌∷◌, ℤ, pos, unsigned_abs}
+use Rattle.std.specs.Prelude.{◌≡◌, ℕ, suc, ◌+◌, ◌-◌, ◌<◌, [], ◌∷◌, ℤ, pos, unsigned_abs}
 use Rattle.std.proofs.Common.{sym, ap, ap₂, subst, ◌∙◌, arith}
-use borrow.Author.Differences.{ints}
-use Rattle.lie_math.specs.FiniteSum as finite
-use Rattle.lie_math.specs.FiniteSum.{IsCanonical}
-use Rattle.lie_math.specs.FiniteSumLaws.{of_list, ext, value-none, term_additive}
-use Rattle.lie_math.specs.Limits.{absolute, absolutes, IsWithinLimits, FitsNumber}
-use Rattle.lie_math.specs.Monomial.{Monomial, exponent, unit, power_of, powers}
+use Rattle.lie_math.specs.FiniteSumLaws.{ext, value-none}
+use Rattle.lie_math.specs.Limits.{absolute, absolutes}
+use Rattle.lie_math.specs.Monomial.{Monomial}
 use Rattle.lie_math.specs.Polynomial.{WholePolynomial, coefficient, terms, term, polynomial_of, constant, 0ᴾ, ◌*ᴾ◌}
-use Rattle.lie_math.specs.PolynomialRing.{*ᴾ_comm, *ᴾ_assoc, one-*ᴾ, polynomial_of-none, polynomial_algebra}
-use Rattle.lie_math.proofs.CanonicalLists.{canonical_cons}
+use Rattle.lie_math.specs.PolynomialRing.{*ᴾ_comm, *ᴾ_assoc, one-*ᴾ, polynomial_algebra}
 use Rattle.lie_math.proofs.Evaluation.{to_power-plus}
 use Rattle.lie_math.proofs.Integer.{unsigned_abs_zero}
 use Rattle.lie_math.proofs.Limits.{IsNonNegative, term_is, nonneg_absolutes}
-use Rattle.lie_math.proofs.TermWise.{not_zero_test}
 use Rattle.lie_ring.specs.Causes.{IsCause}
 use Rattle.lie_ring.specs.declared.failures.PolyFail.{PolyFail}
-use Rattle.lie_poly.specs.Failures.{IsStarved}
-use Rattle.lie_poly.proofs.BulkLists.{limits_of}
 use Rattle.lie_poly.proofs.SumSteps.{cause_covered}
-use Rattle.lie_jet.proofs.Absolutes.{within_starved}
-use Rattle.lie_prolong.proofs.Absolutes.{absolute-nonneg}
+use Rattle.lie_jet.proofs.BoundedPolynomials.{absolute-nonneg}
 use Rattle.lie_reduce.specs.ReducedTerms.{power}
 use Rattle.lie_reduce.proofs.Products.{IsProper, bounded_times, bounded_power, nonneg_times, proper_power, cause_times}
 use Rattle.lie_jet.proofs.PolynomialBounds.{coefficient_absolute, IsBound, absolute_bound, covered_absolute}
@@ -70,10 +62,6 @@ power_cause fail p now base i n apart h lt c =
         ∙ ap (λ x. p *ᴾ x) (sym (to_power-plus polynomial_algebra b (suc i) r))
 
 -- ---- a power of a variable
-pub power_is : (v e : ℕ) (m : Monomial) (ps : List (ℕ × ℕ)) → m.list ≡ ps → ps ≡ (v, e) ∷ [] → m ≡ power_of v e
-unfolding finite.term
-power_is v e m ps l q = sym (of_list powers m) ∙ ap (finite.of powers) (l ∙ q)
-
 pub one_term : (m k : Monomial) (z c : ℤ) → m ≡ k → z ≡ c → polynomial_of ((m, z) ∷ []) ≡ term k c
 one_term m k z c e f = ap₂ (λ (n : Monomial) (y : ℤ). polynomial_of ((n, y) ∷ [])) e f ∙ sym (term_is k c)
 
@@ -87,14 +75,3 @@ variable_cause fail p m z t n u e c =
 
 pub one_absolute : (m : Monomial) (t : WholePolynomial) → t ≡ term m (pos 1) → absolute t ≡ t
 one_absolute m t e = absolute-nonneg t (subst IsNonNegative (sym (e ∙ term_is m (pos 1))) (nonneg_absolutes ((m, pos 1) ∷ [])))
-
--- ---- a number
-low_unit : (w : ℕ) → exponent unit w ≤ 65535
-low_unit w = subst (λ n. n ≤ 65535) (sym (value-none powers w)) (omega arith)
-
-constant_within : (n : ℕ) → n < 2 ^ 127 → IsWithinLimits (polynomial_of ((unit, pos n) ∷ []))
-constant_within zero h = subst IsWithinLimits (polynomial_of-none ∙ sym ((term_additive terms).on_nil unit) ∙ term_is unit (pos 0)) (limits_of [] tt tt (omega arith))
-constant_within (suc n) h = limits_of ((unit, pos (suc n)) ∷ []) (canonical_cons terms (unit, pos (suc n)) [] (not_zero_test (pos (suc n)) (λ e. absurd (omega (arith, ints)))) tt tt) (h, low_unit, tt) (omega arith)
-
-pub constant_starved : (fail : PolyFail) (c : ℤ) (m : Monomial) → FitsNumber c → m ≡ unit → IsCause fail (polynomial_of (absolutes ((m, c) ∷ []))) → IsStarved fail
-constant_starved fail c m fits e h = within_starved fail (polynomial_of ((unit, pos (unsigned_abs c)) ∷ [])) (constant_within (unsigned_abs c) fits) (subst (λ n. IsCause fail (polynomial_of ((n, pos (unsigned_abs c)) ∷ []))) e h)

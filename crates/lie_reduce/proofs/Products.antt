@@ -7,7 +7,7 @@ use borrow.Author.Differences.{ints}
 use lib.IntN.{*ℤ-zero}
 use Rattle.lie_math.specs.FiniteSum.{IsCanonical}
 use Rattle.lie_math.specs.Integer.{*ℤ-distl}
-use Rattle.lie_math.specs.FiniteSumLaws.{value-of, value-plus, list-of, of_list, same_list}
+use Rattle.lie_math.specs.FiniteSumLaws.{value-of, value-plus, list-of, of_list}
 use Rattle.lie_math.specs.Limits.{absolutes, absolute}
 use Rattle.lie_math.specs.Monomial.{Monomial, ◌·◌, unit, powers}
 use Rattle.lie_math.specs.Polynomial.{WholePolynomial, coefficient, polynomial_of, terms, term, constant, 0ᴾ, ◌+ᴾ◌, ◌*ᴾ◌, negᴾ}
@@ -27,8 +27,8 @@ use Rattle.lie_ring.specs.declared.failures.PolyFail.{PolyFail}
 use Rattle.lie_ring.specs.declared.failures.PolyFail.TheVariants.{Past, NoMemory}
 use Rattle.lie_poly.proofs.SumSteps.{cause_covered}
 use Rattle.lie_jet.proofs.TotalSteps.{size_times}
-use Rattle.lie_prolong.proofs.Absolutes.{bounded_more, bounded_negative, left_over, left_over_plain, left_over_sum, absolute-nonneg}
-use Rattle.lie_prolong.proofs.Positive.{IsPositive, positive_bounded}
+use Rattle.lie_jet.proofs.BoundedPolynomials.{bounded_more, bounded_negative, left_over, left_over_plain, left_over_sum, absolute-nonneg}
+use Rattle.lie_jet.proofs.PositiveMaps.{IsPositive, positive_bounded}
 use Rattle.lie_jet.proofs.TotalBounds.{term_bound}
 use Rattle.lie_jet.proofs.PolynomialBounds.{IsBound, none_bound, plain_bound, sum_bound}
 

@@ -27,7 +27,7 @@ use Rattle.lie_ring.specs.declared.failures.PolyFail.TheVariants.{Past, NoMemory
 use Rattle.lie_poly.proofs.TermLists.{entries-append}
 use Rattle.lie_poly.proofs.TimesSteps.{entry_not_zero}
 use Rattle.lie_jet.specs.Listed.{sum_listed, bulk_listed}
-use Rattle.lie_prolong.proofs.Absolutes.{absolute-nonneg}
+use Rattle.lie_jet.proofs.BoundedPolynomials.{absolute-nonneg}
 use Rattle.lie_jet.proofs.TotalBounds.{term_bound}
 use Rattle.lie_solved.specs.declared.solved.LeadRule.{LeadRule}
 use Rattle.lie_solved.specs.SolvedForms.{solved_equations}

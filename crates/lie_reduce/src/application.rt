@@ -8,21 +8,21 @@ ghost use Rattle.lie_geometry.specs.SolvedEquations.{difference};
 ghost use Rattle.lie_ring.specs.Causes.{IsCause};
 ghost use Rattle.lie_poly.specs.Failures.{IsStarved};
 ghost use Rattle.lie_jet.specs.Jets.{IsJet};
+ghost use Rattle.lie_system.specs.Limits.{greatest_jet_order};
 ghost use Rattle.lie_solved.specs.SolvedForms.{solved_equation};
 ghost use Rattle.lie_jet.specs.Listed.{sum_listed, bulk_listed};
 ghost use Rattle.lie_reduce.specs.Applications.{applied_to, absolute_coefficients, lead_number, rule_sides, sides_bulk};
 
 use crate::limits::known_within_limits;
-use crate::powers::constant;
 use crate::reduction::push_terms;
 use crate::sizes::absolute_rule;
 use lie_jet::{JetPoly, Space, absolute_polynomial, jet_number};
-use lie_ring::{Mono, PolyFail, Polynomial, Ring, Whole};
+use lie_ring::{Mono, PolyFail, Polynomial, Ring, Whole, constant_polynomial};
 use lie_solved::LeadRule;
 use std::alloc::Global;
 
 /// The derivative of `c * lead + sign * right` by a variable, where the right side does not have the lead, and the sign is 1 or -1.
-pub fn slope(
+pub fn derivative_of_sides(
     alloc: Global,
     rule: &LeadRule,
     lead: u32,
@@ -35,7 +35,7 @@ pub fn slope(
     ensures past { IfErr result (λ fail. IsCause fail (partial number (sides_bulk lead rule.now))) }
 {
     if number == lead {
-        return constant(alloc, rule.c);
+        return Ok(constant_polynomial(alloc, rule.c)?);
     }
     let derivative = rule.right.derive(alloc, number)?;
     derivative.scale(alloc, &sign)
@@ -62,7 +62,7 @@ fn push_part(
     if coefficient.len() == 0 {
         return Ok(());
     }
-    let slope = slope(alloc, rule, lead, sign, number)?;
+    let slope = derivative_of_sides(alloc, rule, lead, sign, number)?;
     let part = coefficient.mul(alloc, &slope)?;
     push_terms(made, alloc, &part)
 }
@@ -106,9 +106,7 @@ fn absolute_coefficients(
     let mut made = Vec::new(alloc);
     for coefficient in coefficients {
         let absolute = absolute_polynomial(alloc, &coefficient.1)?;
-        if made.push((coefficient.0, absolute)).is_err() {
-            return Err(PolyFail::NoMemory);
-        }
+        made.push((coefficient.0, absolute))?;
     }
     Ok(made)
 }
@@ -120,7 +118,7 @@ pub fn applied_field(
     rule: &LeadRule,
     coefficients: &[(u32, JetPoly)],
 ) -> Result<JetPoly, PolyFail>
-    requires jet { IsJet space 12 rule.now.lead }
+    requires jet { IsJet space greatest_jet_order rule.now.lead }
     requires free { FreeOf (lead_number space rule.now) rule.now.right }
     ensures value { IfOk result (λ made. made ≡ applied_to coefficients.now (difference (solved_equation space rule.now))) }
     ensures fits { OnOk result (IsWithinLimits (applied_to (absolute_coefficients coefficients.now)

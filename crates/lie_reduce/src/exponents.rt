@@ -49,9 +49,7 @@ pub fn greatest_exponents(
     let mut made = Vec::new(alloc);
     for rule in rules {
         let greatest = greatest_exponent(alloc, polynomials, jet_number(space, &rule.lead))?;
-        if made.push(greatest).is_err() {
-            return Err(NoMemory);
-        }
+        made.push(greatest)?;
     }
     Ok(made)
 }

@@ -4,14 +4,16 @@
 mod application;
 mod exponents;
 mod limits;
+mod occurrences;
 mod order;
 mod powers;
 mod reduction;
 mod sizes;
 
-pub use application::{applied_field, slope};
+pub use application::{applied_field, derivative_of_sides};
 pub use exponents::greatest_exponents;
 pub use limits::known_within_limits;
+pub use occurrences::occurring_numbers;
 pub use order::greatest_order;
 pub use reduction::{reduced, reduced_all};
 pub use sizes::absolute_rules;

@@ -4,6 +4,7 @@ ghost use Rattle.lie_math.specs.Natural.{maxima};
 ghost use Rattle.lie_math.specs.SortedSum.{sum_of_entries};
 ghost use Rattle.lie_geometry.specs.Coordinates.{coordinate, coordinates_up_to, order_of as order_of_coordinate};
 ghost use Rattle.lie_geometry.specs.Invariance.{greatest_order};
+ghost use Rattle.lie_system.specs.Limits.{greatest_written_order};
 ghost use Rattle.lie_solved.specs.SolvedForms.{solved_equations};
 ghost use Rattle.lie_solved.specs.SolvedRules.{AreSolvedRules};
 
@@ -37,9 +38,9 @@ fn greatest_variable(terms: &[(Mono, Whole)], number: u32) -> u32
 
 /// The order of the coordinate with a number.
 fn order_at(space: Space, number: u32) -> u8
-    requires { number < coordinates_up_to space 6 }
+    requires { number < coordinates_up_to space greatest_written_order }
     ensures order { result ≡ order_of_coordinate (coordinate space number) }
-    ensures low { result ≤ 6 }
+    ensures low { result ≤ greatest_written_order }
 {
     match jet_of(space, number) {
         Some(jet) => order_of(space, &jet) as u8,
@@ -51,7 +52,7 @@ fn order_at(space: Space, number: u32) -> u8
 pub fn greatest_order(alloc: Global, space: Space, rules: &[LeadRule]) -> Result<u8, NoMemory>
     requires { AreSolvedRules space rules.now }
     ensures order { IfOk result (λ n. n ≡ greatest_order space (solved_equations space rules.now)) }
-    ensures low { IfOk result (λ n. n ≤ 6) }
+    ensures low { IfOk result (λ n. n ≤ greatest_written_order) }
 {
     let mut greatest: u8 = 0;
     for rule in rules {

@@ -2,9 +2,8 @@
 ghost use Rattle.std.specs.Prelude.{◌≡◌, pos, IfOk, IfErr};
 ghost use Rattle.lie_math.specs.Limits.{absolute};
 ghost use Rattle.lie_math.specs.Monomial.{power_of};
-ghost use Rattle.lie_math.specs.Polynomial.{0ᴾ, ◌*ᴾ◌, constant as constant_polynomial, term};
+ghost use Rattle.lie_math.specs.Polynomial.{0ᴾ, ◌*ᴾ◌, term};
 ghost use Rattle.lie_ring.specs.Causes.{IsCause};
-ghost use Rattle.lie_poly.specs.Failures.{IsStarved};
 ghost use Rattle.lie_reduce.specs.ReducedTerms.{power};
 
 use lie_jet::JetPoly;
@@ -40,19 +39,7 @@ pub fn times_variable(
     ensures product { IfOk result (λ made. made ≡ poly *ᴾ term (power_of number exponent) (pos 1)) }
     ensures past { IfErr result (λ fail. IsCause fail (absolute poly *ᴾ term (power_of number exponent) (pos 1))) }
 {
-    let mono = match Mono::new(alloc, &[(number, exponent)]) {
-        Ok(Some(mono)) => mono,
-        _ => return Err(PolyFail::NoMemory),
-    };
+    let mono = Mono::power(alloc, number, exponent);
     let power = JetPoly::of_terms(alloc, &[(mono, Whole::one())])?;
     poly.mul(alloc, &power)
-}
-
-/// A number as a polynomial.
-pub fn constant(alloc: Global, c: Whole) -> Result<JetPoly, PolyFail>
-    ensures constant { IfOk result (λ made. made ≡ constant_polynomial c) }
-    ensures memory { IfErr result IsStarved }
-{
-    let _ = c.get();
-    JetPoly::of_terms(alloc, &[(Mono::one(alloc), c)])
 }

@@ -2,7 +2,7 @@
 ghost use Rattle.std.specs.Prelude.{◌≡◌, ◌↔◌, ℕ, ℤ, pos, unsigned_abs, IsTrue, IfOk, IfErr, OnOk};
 ghost use Rattle.std.specs.List.{Any, AllByRecursion as Every};
 ghost use Rattle.lie_math.specs.Limits.{absolute};
-ghost use Rattle.lie_math.specs.Polynomial.{0ᴾ, ◌+ᴾ◌, ◌*ᴾ◌, constant as constant_polynomial};
+ghost use Rattle.lie_math.specs.Polynomial.{0ᴾ, ◌+ᴾ◌, ◌*ᴾ◌, constant};
 ghost use Rattle.lie_geometry.specs.SolvedEquations.{replacement, missing_powers, reduced_by};
 ghost use Rattle.lie_ring.specs.Causes.{IsCause};
 ghost use Rattle.lie_poly.specs.Failures.{IsStarved};
@@ -14,10 +14,9 @@ ghost use Rattle.lie_reduce.specs.Reductions.{reductions, CanReduce, IsReduction
 ghost use Rattle.lie_reduce.specs.ReducedTerms.{power, replaced, reduced_term, AreExponents, ForExponents, IsKept, IsRuleAt};
 
 use crate::exponents::greatest_exponents;
-use crate::powers::{constant, times_power, times_variable};
-use lie_bytes::NoMemory;
+use crate::powers::{times_power, times_variable};
 use lie_jet::{JetPoly, Space, jet_number};
-use lie_ring::{Mono, PolyFail, Polynomial, Whole};
+use lie_ring::{Mono, PolyFail, Polynomial, Whole, constant_polynomial};
 use lie_solved::LeadRule;
 use std::alloc::Global;
 
@@ -114,15 +113,16 @@ fn times_missing(
     requires rules { CanReduce space rules.now }
     requires greatest { AreExponents space rules.now greatest.now }
     ensures product { ForExponents space rules.now greatest.now
-        (λ e. IfOk result (λ made. made ≡ poly *ᴾ constant_polynomial (missing_powers (solved_equations space rules.now) e mono.now))) }
+        (λ e. IfOk result (λ made. made ≡ poly *ᴾ constant (missing_powers (solved_equations space rules.now) e mono.now))) }
     ensures past { ForExponents space rules.now greatest.now (λ e. IfErr result
-        (λ fail. IsCause fail (absolute poly *ᴾ constant_polynomial
+        (λ fail. IsCause fail (absolute poly *ᴾ constant
         (missing_powers (absolute_equations (solved_equations space rules.now)) e mono.now)))) }
 {
     let mut product = poly;
     for (i, rule) in rules.iter().enumerate() {
         let missing = greatest[i].saturating_sub(mono.exponent(jet_number(space, &rule.lead)));
-        product = times_power(alloc, product, &constant(alloc, rule.c)?, missing)?;
+        let factor: JetPoly = constant_polynomial(alloc, rule.c)?;
+        product = times_power(alloc, product, &factor, missing)?;
     }
     Ok(product)
 }
@@ -133,13 +133,9 @@ pub fn push_terms(made: &mut Vec<(Mono, Whole)>, alloc: Global, p: &JetPoly) -> 
     ensures bulk { OnOk result (bulk_listed made.new.items ≡ bulk_listed made.old.items +ᴾ absolute p.now) }
     ensures memory { IfErr result IsStarved }
 {
-    match p.terms(alloc) {
-        Ok(mut terms) => match made.append(&mut terms) {
-            Ok(()) => Ok(()),
-            Err(_) => Err(PolyFail::NoMemory),
-        },
-        Err(NoMemory) => Err(PolyFail::NoMemory),
-    }
+    let mut terms = p.terms(alloc)?;
+    made.append(&mut terms)?;
+    Ok(())
 }
 
 /// Puts the terms of the reduction of a term behind others.
@@ -167,7 +163,7 @@ fn push_reduced(
     if has_removed(space, rules, term.0.pairs()) {
         return Ok(());
     }
-    let number = constant(alloc, term.1)?;
+    let number: JetPoly = constant_polynomial(alloc, term.1)?;
     let multiple = times_missing(alloc, space, rules, greatest, number, &term.0)?;
     let product = times_all(alloc, space, rules, multiple, term.0.pairs())?;
     push_terms(made, alloc, &product)
@@ -188,10 +184,7 @@ pub fn reduced(
     ensures past { ForExponents space rules.now greatest.now (λ e. IfErr result
         (λ fail. IsCause fail (reduction_bulk_by (solved_equations space rules.now) e p.now))) }
 {
-    let terms = match p.terms(alloc) {
-        Ok(terms) => terms,
-        Err(NoMemory) => return Err(PolyFail::NoMemory),
-    };
+    let terms = p.terms(alloc)?;
     let mut made = Vec::new(alloc);
     for term in &terms {
         push_reduced(&mut made, alloc, space, rules, greatest, term)?;
@@ -213,16 +206,11 @@ pub fn reduced_all(
     ensures reduced { IfOk result (λ made. made.items ≡ reductions (solved_equations space rules.now) polynomials.now) }
     ensures past { IfErr result (IsReductionCause (solved_equations space rules.now) polynomials.now) }
 {
-    let greatest = match greatest_exponents(alloc, space, rules, polynomials) {
-        Ok(greatest) => greatest,
-        Err(NoMemory) => return Err(PolyFail::NoMemory),
-    };
+    let greatest = greatest_exponents(alloc, space, rules, polynomials)?;
     let mut made = Vec::new(alloc);
     for p in polynomials {
         let next = reduced(alloc, space, rules, greatest.as_slice(), p)?;
-        if made.push(next).is_err() {
-            return Err(PolyFail::NoMemory);
-        }
+        made.push(next)?;
     }
     Ok(made)
 }

@@ -32,9 +32,7 @@ pub fn absolute_rules(alloc: Global, rules: &[LeadRule]) -> Result<Vec<LeadRule>
 {
     let mut made = Vec::new(alloc);
     for rule in rules {
-        if made.push(absolute_rule(alloc, rule)?).is_err() {
-            return Err(PolyFail::NoMemory);
-        }
+        made.push(absolute_rule(alloc, rule)?)?;
     }
     Ok(made)
 }

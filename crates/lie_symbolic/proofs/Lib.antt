@@ -1,3 +1,4 @@
 pub mod SymbolicLimits
 pub mod SymbolicMultiples
 pub mod SymbolicSteps
+pub mod SymbolicWithin

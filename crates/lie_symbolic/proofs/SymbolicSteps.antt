@@ -10,9 +10,8 @@ use Rattle.lie_math.specs.FiniteSumLaws as finite_laws
 use Rattle.lie_math.specs.FiniteSumLaws.{plus_idl, plus_assoc, plus_comm, value-none}
 use Rattle.lie_math.specs.Limits.{absolute}
 use Rattle.lie_math.specs.LinearForm.{forms, LinearForm, no_form, ◌+ᶠ◌, form_term, each_coefficient, times_form}
-use Rattle.lie_math.specs.Monomial.{Monomial, unit}
-use Rattle.lie_math.specs.Polynomial.{WholePolynomial, terms, constant, polynomial_of, ◌+ᴾ◌}
-use Rattle.lie_math.proofs.Limits.{term_is}
+use Rattle.lie_math.specs.Monomial.{unit}
+use Rattle.lie_math.specs.Polynomial.{WholePolynomial, terms, constant, ◌+ᴾ◌}
 use Rattle.lie_jet.proofs.Absolutes.{one_within}
 use Rattle.lie_geometry.specs.Coordinates.{Space}
 use Rattle.lie_geometry.specs.Prolongation.{indices}
@@ -21,18 +20,18 @@ use Rattle.lie_ring.specs.Causes.{IsCause}
 use Rattle.lie_ring.specs.declared.failures.PolyFail.{PolyFail}
 use Rattle.lie_systems.specs.Bulk.{IsFormWithinLimits}
 use Rattle.lie_systems.specs.Triples.{triples, triples_in}
-use Rattle.lie_form.specs.FormLimits.{IsFormCause, IsFormCoefficientCause}
+use Rattle.lie_form.specs.FormLimits.{IsFormCoefficientCause}
 use Rattle.lie_jet.specs.Jets.{coordinate_of, IsSmall}
 use Rattle.lie_jet.specs.declared.jet.Jet.{Jet}
-use Rattle.lie_form.proofs.FormBounds.{at, IsFormBound, IsPlain, cause_bound, form_trans, form_plain, form_sum, form_first, over_bound, fewer_bound, sizes_bound, sizes_twice}
+use Rattle.lie_form.proofs.FormBounds.{at, IsFormBound, IsPlain, cause_bound, form_trans, form_plain, form_sum, form_first, over_bound, fewer_bound, form_absolute_bound}
 use Rattle.lie_jet.proofs.PolynomialBounds.{absolute_none}
-use Rattle.lie_form.proofs.FormCauses.{coefficient_cause, IsLowEntry, within_limits}
+use Rattle.lie_form.proofs.FormCauses.{IsLowEntry, within_limits}
 use Rattle.lie_form.proofs.FormSteps.{at_term, form_total_bound}
 use Rattle.lie_jet.proofs.TotalBounds.{absolute_term}
 use Rattle.lie_jet.specs.Lowered.{IsLowered}
 use Rattle.lie_symbolic.specs.SymbolicBulks.{symbolic_multiple, symbolic_multiples, symbolic_coefficient_bulk, symbolic_bulk_at}
 use Rattle.lie_jet.proofs.LoweredJets.{counts_of_jet}
-use Rattle.lie_symbolic.proofs.SymbolicMultiples.{times_one, times_over, multiple_bound, component_at}
+use Rattle.lie_symbolic.proofs.SymbolicMultiples.{times_over, multiple_bound, component_at}
 
 -- ---- the multiples, one by one
 module _ (S : Space) (k a : ℕ) (J : List ℕ) (s : ℤ) where
@@ -73,7 +72,7 @@ module _ (S : Space) (k a : ℕ) (J : List ℕ) (s : ℤ) where
     M n = forms_over (numbers_below n) (symbolic_multiple S k a J)
 
     front : unsigned_abs s ≡ 1 → (E : LinearForm) (b : ℕ) → E ≡ symbolic_total S k B +ᶠ forms_over (numbers_below b) signed → IsFormBound (each_coefficient absolute E) (T +ᶠ M b)
-    front unit E b e = sizes_bound E _ (subst (λ K. IsFormBound K (T +ᶠ M b)) (sym e) (form_sum _ _ _ _ (form_total_bound S small k inside B) (over_bound signed (symbolic_multiple S k a J) (numbers_below b) (λ i. multiple_bound S k a J i small inside s unit))))
+    front unit E b e = form_absolute_bound E _ (subst (λ K. IsFormBound K (T +ᶠ M b)) (sym e) (form_sum _ _ _ _ (form_total_bound S small k inside B) (over_bound signed (symbolic_multiple S k a J) (numbers_below b) (λ i. multiple_bound S k a J i small inside s unit))))
 
     wider : (b : ℕ) → suc b ≤ S.p → IsFormBound ((T +ᶠ M b) +ᶠ symbolic_multiple S k a J b) (T +ᶠ symbolic_multiples S k a J)
     wider b less =
@@ -82,14 +81,6 @@ module _ (S : Space) (k a : ℕ) (J : List ℕ) (s : ℤ) where
 
     pub put_multiple_cause : (fail : PolyFail) → unsigned_abs s ≡ 1 → (E : LinearForm) (b : ℕ) → b < S.p → E ≡ symbolic_total S k B +ᶠ forms_over (numbers_below b) signed → IsFormCoefficientCause fail (each_coefficient absolute E +ᶠ symbolic_multiple S k a J b) → IsFormCoefficientCause fail (symbolic_total S k (each_coefficient absolute B) +ᶠ symbolic_multiples S k a J)
     put_multiple_cause fail unit E b h e cause = cause_bound fail _ _ (form_trans _ _ _ (form_sum _ _ _ _ (front unit E b e) (plain b)) (wider b (omega arith))) cause
-
--- ---- first with absolute values
-module _ (S : Space) (k a : ℕ) (J : List ℕ) (B A : LinearForm) (sizes : A ≡ each_coefficient absolute B) where
-  pub sizes_cause : (fail : PolyFail) → IsFormCoefficientCause fail (symbolic_total S k (each_coefficient absolute A) +ᶠ symbolic_multiples S k a J) → IsFormCause fail (symbolic_total S k (each_coefficient absolute B) +ᶠ symbolic_multiples S k a J)
-  sizes_cause fail cause = coefficient_cause fail _ (subst (λ K. IsFormCoefficientCause fail (symbolic_total S k K +ᶠ symbolic_multiples S k a J)) (ap (each_coefficient absolute) sizes ∙ sizes_twice B) cause)
-
-  pub sizes_bulk : (one : ℤ) (E : LinearForm) → one ≡ pos 1 → E ≡ symbolic_total S k A +ᶠ times_form (constant one) (symbolic_multiples S k a J) → E ≡ symbolic_total S k (each_coefficient absolute B) +ᶠ symbolic_multiples S k a J
-  sizes_bulk one E h e = e ∙ ap₂ (λ K z. symbolic_total S k K +ᶠ times_form (constant z) (symbolic_multiples S k a J)) sizes h ∙ ap (λ K. symbolic_total S k (each_coefficient absolute B) +ᶠ K) (times_one (symbolic_multiples S k a J))
 
 -- ---- from the jet derived once less to the jet
 module _ (S : Space) (j l : Jet) (k : ℕ) (low : IsLowered S j k l) where
@@ -111,21 +102,15 @@ module _ (S : Space) (j : Jet) (none : indices (take S.p j.counts) ≡ []) where
 
 -- ---- a component
 module _ (v : ℕ) where
-  one_is : (m : Monomial) (z : ℤ) (p : WholePolynomial) → m ≡ unit → z ≡ pos 1 → p ≡ polynomial_of ((m, z) ∷ []) → p ≡ constant (pos 1)
-  one_is m z p e h q = q ∙ ap₂ (λ n y. polynomial_of ((n, y) ∷ [])) e h ∙ sym (term_is unit (pos 1))
+  pub unknown_put : (E G : LinearForm) (d : Derivative) (z : ℤ) (p : WholePolynomial) → E ≡ no_form → d ≡ component_at v → z ≡ pos 1 → p ≡ constant z → G ≡ E +ᶠ form_term d p → G ≡ unknown v
+  unknown_put E G d z p e h y q g = g ∙ ap₂ (λ K F. K +ᶠ F) e (ap₂ (λ j u. form_term j u) h (q ∙ ap constant y)) ∙ plus_idl forms (unknown v)
 
-  pub unknown_put : (E G : LinearForm) (d : Derivative) (m : Monomial) (z : ℤ) (p : WholePolynomial) → E ≡ no_form → d ≡ component_at v → m ≡ unit → z ≡ pos 1 → p ≡ polynomial_of ((m, z) ∷ []) → G ≡ E +ᶠ form_term d p → G ≡ unknown v
-  unknown_put E G d m z p e h f y q g = g ∙ ap₂ (λ K F. K +ᶠ F) e (ap₂ (λ j u. form_term j u) h (one_is m z p f y q)) ∙ plus_idl forms (unknown v)
-
-  one_cause : (fail : PolyFail) → IsCause fail (constant (pos 1)) → IsFormCause fail (unknown v)
-  one_cause fail cause = coefficient_cause fail (unknown v) (component_at v, subst (IsCause fail) (sym (at_term (component_at v) (constant (pos 1)))) cause)
-
-  pub one_made_cause : (fail : PolyFail) (m : Monomial) (z : ℤ) → m ≡ unit → z ≡ pos 1 → IsCause fail (polynomial_of ((m, pos (unsigned_abs z)) ∷ [])) → IsFormCause fail (unknown v)
-  one_made_cause fail m z e h cause = one_cause fail (subst (IsCause fail) (ap₂ (λ n y. polynomial_of ((n, pos (unsigned_abs y)) ∷ [])) e h ∙ sym (term_is unit (pos 1))) cause)
-
-  pub unknown_cause : (fail : PolyFail) (E : LinearForm) (d : Derivative) (m : Monomial) (z : ℤ) (p : WholePolynomial) → E ≡ no_form → m ≡ unit → z ≡ pos 1 → p ≡ polynomial_of ((m, z) ∷ []) → IsCause fail (absolute (at E d) +ᴾ absolute p) → IsFormCause fail (unknown v)
-  unknown_cause fail E d m z p e f y q cause =
-      one_cause fail (subst (IsCause fail) (ap₂ ◌+ᴾ◌ (ap absolute (ap (λ K. at K d) e ∙ value-none forms d) ∙ absolute_none) (ap absolute (one_is m z p f y q) ∙ absolute_term unit (pos 1) refl) ∙ plus_idl terms (constant (pos 1))) cause)
+  pub unknown_cause : (fail : PolyFail) (E : LinearForm) (d : Derivative) (z : ℤ) (p : WholePolynomial) → E ≡ no_form → z ≡ pos 1 → p ≡ constant z → IsCause fail (absolute (at E d) +ᴾ absolute p) → IsFormCoefficientCause fail (unknown v)
+  unknown_cause fail E d z p e y q cause = (
+    component_at v,
+    subst (IsCause fail) (sym (at_term (component_at v) (constant (pos 1))))
+        (subst (IsCause fail) (ap₂ ◌+ᴾ◌ (ap absolute (ap (λ K. at K d) e ∙ value-none forms d) ∙ absolute_none) (ap absolute (q ∙ ap constant y) ∙ absolute_term unit (pos 1) refl) ∙ plus_idl terms (constant (pos 1))) cause),
+  )
 
   unknown_listed : (unknown v).list ≡ (component_at v, constant (pos 1)) ∷ []
   unfolding finite.term finite.of

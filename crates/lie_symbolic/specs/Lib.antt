@@ -1,1 +1,2 @@
 pub mod SymbolicBulks
+pub mod SymbolicCoefficients

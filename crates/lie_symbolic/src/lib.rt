@@ -4,8 +4,7 @@
 mod symbolic;
 mod symbolic_coefficient;
 
-pub use symbolic::prolong_sym;
-pub use symbolic_coefficient::component;
+pub use symbolic::{coefficients_are_within_limits, prolong_sym};
 
 #[cfg(test)]
 mod tests;

@@ -18,8 +18,8 @@ returns-in_err-coefficients-clause-past c =
     let S = c.args.space in
     let V = component c.args.field.now in
     let rs = solved_equations S c.args.rules.now in
-    let p = err_from_is_err_and c.from_residual.result c.from_residual.ensures.1 in
-    rw (p.1, p.2) (coefficient_cause S V c.args.rules.now c.in-Ok.order _ c.in-Ok.ensures.order c.in_err-coefficients.ensures.past)
+    let p = err_from_is_err_and c.from_residual-in_err-coefficients.result c.from_residual-in_err-coefficients.ensures.1 in
+    rw (p.1, p.2) (coefficient_cause S V c.args.rules.now c.in_ok-order.order _ c.in_ok-order.ensures.order c.in_err-coefficients.ensures.past)
 
 pub applied_field-requires-clause-free : goal.applied_field-requires-clause-free
 applied_field-requires-clause-free c =
@@ -39,7 +39,7 @@ returns-in_err-applied-clause-past c =
     let rs = solved_equations S c.args.rules.now in
     let r = c.index-rules-i.result in
     let ready = rule_ready S c.args.rules.now c.loop-i.i r c.requires.rules c.loop-i-test.true c.index-rules-i.is in
-    let cs = c.as_slice.ensures.value ∙ c.in_ok-coefficients.ensures.coefficients ∙ ap (numbered_coefficients S V) c.in-Ok.ensures.order in
+    let cs = c.as_slice.ensures.value ∙ c.in_ok-coefficients.ensures.coefficients ∙ ap (numbered_coefficients S V) c.in_ok-order.ensures.order in
     let p = err_from_is_err_and c.from_residual-in_err-applied.result c.from_residual-in_err-applied.ensures.1 in
     rw (p.1, p.2) (applied_cause S V c.args.rules.now c.loop-i.i r c.loop-i-test.true c.index-rules-i.is _ (subst (IsCause c.in_err-applied.field-0.0) (application_bulk_is S rs V (solved_equation S r) c.as_slice.result.now ready.free cs) c.in_err-applied.ensures.past))
 
@@ -54,7 +54,7 @@ returns-in_err-rest-clause-past c =
     let rs = solved_equations S c.args.rules.now in
     let r = c.index-rules-i.result in
     let ready = rule_ready S c.args.rules.now c.loop-i.i r c.requires.rules c.loop-i-test.true c.index-rules-i.is in
-    let cs = c.as_slice.ensures.value ∙ c.in_ok-coefficients.ensures.coefficients ∙ ap (numbered_coefficients S V) c.in-Ok.ensures.order in
+    let cs = c.as_slice.ensures.value ∙ c.in_ok-coefficients.ensures.coefficients ∙ ap (numbered_coefficients S V) c.in_ok-order.ensures.order in
     let value = c.in_ok-applied.ensures.value ∙ application_is S rs V (solved_equation S r) c.as_slice.result.now cs in
     let p = err_from_is_err_and c.from_residual-in_err-rest.result c.from_residual-in_err-rest.ensures.1 in
     rw (p.1, p.2) (reduced_cause S V c.args.rules.now c.loop-i.i r c.loop-i-test.true c.index-rules-i.is _ (subst (λ P. IsCause c.in_err-rest.field-0.0 (reduction_bulk rs P)) value c.in_err-rest.ensures.past))
@@ -66,7 +66,7 @@ loop-i-preserved c =
     let rs = solved_equations S c.args.rules.now in
     let r = c.index-rules-i.result in
     let ready = rule_ready S c.args.rules.now c.loop-i.i r c.requires.rules c.loop-i-test.true c.index-rules-i.is in
-    let cs = c.as_slice.ensures.value ∙ c.in_ok-coefficients.ensures.coefficients ∙ ap (numbered_coefficients S V) c.in-Ok.ensures.order in
+    let cs = c.as_slice.ensures.value ∙ c.in_ok-coefficients.ensures.coefficients ∙ ap (numbered_coefficients S V) c.in_ok-order.ensures.order in
     let value = c.in_ok-applied.ensures.value ∙ application_is S rs V (solved_equation S r) c.as_slice.result.now cs in
     record {
       verdict = verdict_more S V c.args.rules.now c.loop-i.i r c.loop-i-test.true c.index-rules-i.is (c.loop-i.i + 1) c.loop-i.verdict c.first_failure-verdict.result c.in_ok-rest.rest (let e : c.loop-i.i + 1 ≡ suc c.loop-i.i = omega arith in e) (c.in_ok-rest.ensures.value ∙ ap (reduced rs) value) c.first_failure-verdict.ensures c.loop-i.invariant.verdict;
@@ -78,4 +78,4 @@ loop-i-preserved c =
 
 pub returns-clause-fits : goal.returns-clause-fits
 returns-clause-fits c =
-    all_checked c.args.space (component c.args.field.now) c.args.rules.now c.in-Ok.order c.loop-i.i c.in-Ok.ensures.order c.in_ok-coefficients.ensures.fits c.loop-i-test.false c.loop-i.invariant.done
+    all_checked c.args.space (component c.args.field.now) c.args.rules.now c.in_ok-order.order c.loop-i.i c.in_ok-order.ensures.order c.in_ok-coefficients.ensures.fits c.loop-i-test.false c.loop-i.invariant.done

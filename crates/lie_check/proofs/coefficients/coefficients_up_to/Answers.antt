@@ -13,7 +13,7 @@ pub jet_number-requires : goal.jet_number-requires
 jet_number-requires c = value_jet c.args.space (component c.args.field.now) c.args.order c.deref-value-items.result.now c.loop-value.value-index c.value-item.result (values (goal.at.jet_number-requires c).After-deref-value-items) c.requires.low c.loop-value-test.true c.value-item.is
 
 pub loop-value-preserved : goal.loop-value-preserved
-loop-value-preserved c = value_more c.args.space (component c.args.field.now) c.args.order c.deref-value-items.result.now c.loop-value.value-index c.jet_number.result c.value-item.result c.loop-value.made.items c.push_copy.new.made.items (values (goal.at.loop-value-preserved c).After-deref-value-items) c.loop-value-test.true c.value-item.is c.loop-value.invariant c.jet_number.ensures.number c.in_ok-push_copy.ensures.pushed
+loop-value-preserved c = value_more c.args.space (component c.args.field.now) c.args.order c.deref-value-items.result.now c.loop-value.value-index c.jet_number.result c.value-item.result c.loop-value.made.items c.push_copy.new.made.items (values (goal.at.loop-value-preserved c).After-deref-value-items) c.loop-value-test.true c.value-item.is c.loop-value.invariant c.jet_number.ensures.number c.in_ok-push_copy.ensures
 
 pub returns-clause-coefficients : goal.returns-clause-coefficients
 returns-clause-coefficients c = all_values c.args.space (component c.args.field.now) c.args.order c.deref-value-items.result.now c.loop-value.value-index c.loop-value.made.items (values (goal.at.returns-clause-coefficients c).After-deref-value-items) c.loop-value.auto.value-index-end c.loop-value-test.false c.loop-value.invariant

@@ -13,7 +13,7 @@ reduced_all-requires c = subst (CanReduce c.args.space) (sym c.as_slice.ensures.
 pub returns-in_err-reduced_all-clause-past : goal.returns-in_err-reduced_all-clause-past
 returns-in_err-reduced_all-clause-past c =
     let p = err_from_is_err_and c.from_residual-in_err-reduced_all.result c.from_residual-in_err-reduced_all.ensures.1 in
-    rw (p.1, p.2) (sized_cause (solved_equations c.args.space c.args.rules.now) (solved_equations c.args.space c.as_slice.result.now) c.args.applied c.in_ok-absolute.absolute c.in_err-reduced_all.field-0.0 (ap (solved_equations c.args.space) c.as_slice.ensures.value ∙ c.in_ok-absolutes.ensures.equations c.args.space) c.in_ok-absolute.ensures.sizes c.in_err-reduced_all.ensures.past)
+    rw (p.1, p.2) (sized_cause (solved_equations c.args.space c.args.rules.now) (solved_equations c.args.space c.as_slice.result.now) c.args.applied c.in_ok-absolute.absolute c.in_err-reduced_all.field-0.0 (ap (solved_equations c.args.space) c.as_slice.ensures.value ∙ c.in_ok-absolutes.ensures.equations c.args.space) c.in_ok-absolute.ensures.absolute c.in_err-reduced_all.ensures.past)
 
 pub returns-in_err-reduced_all-2-clause-past : goal.returns-in_err-reduced_all-2-clause-past
 returns-in_err-reduced_all-2-clause-past c =
@@ -27,5 +27,5 @@ pub returns-clause-fits : goal.returns-clause-fits
 returns-clause-fits c =
     subst IsWithinLimits
     (c.alone-bulk.ensures _ c.in_ok-reduced_all.ensures.reduced
-    ∙ sized_value (solved_equations c.args.space c.args.rules.now) (solved_equations c.args.space c.as_slice.result.now) c.args.applied c.in_ok-absolute.absolute (ap (solved_equations c.args.space) c.as_slice.ensures.value ∙ c.in_ok-absolutes.ensures.equations c.args.space) c.in_ok-absolute.ensures.sizes)
+    ∙ sized_value (solved_equations c.args.space c.args.rules.now) (solved_equations c.args.space c.as_slice.result.now) c.args.applied c.in_ok-absolute.absolute (ap (solved_equations c.args.space) c.as_slice.ensures.value ∙ c.in_ok-absolutes.ensures.equations c.args.space) c.in_ok-absolute.ensures.absolute)
     c.known_within_limits.ensures

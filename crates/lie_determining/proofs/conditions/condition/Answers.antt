@@ -7,12 +7,15 @@ use Rattle.lie_solved.specs.SolvedForms.{solved_equation, solved_equations}
 use Rattle.lie_determining.specs.Conditions.{IsConditionWithin, IsConditionCause}
 use Rattle.lie_determining.specs.SymbolicBulks.{symbolic_reduction_bulk}
 use Rattle.lie_reduce.proofs.Places.{at_place}
-use Rattle.lie_determining.proofs.ConditionSteps.{sized_at, reduced_cause}
+use Rattle.lie_determining.proofs.ConditionSteps.{sized_at, rule_inside, reduced_cause}
 use Rattle.lie_reduce.proofs.GreatestVariables.{rule_ready}
 use Rattle.lie_determining.proofs.conditions.condition.Goals as goal
 
 pub applied-requires-clause-rule : goal.applied-requires-clause-rule
 applied-requires-clause-rule c = rule_ready c.args.space c.args.rules.now c.args.place c.index-rules-place.result c.requires.rules c.requires.place c.index-rules-place.is
+
+pub applied-requires-clause-inside : goal.applied-requires-clause-inside
+applied-requires-clause-inside c = rule_inside c.args.space c.args.rules.now c.args.place c.index-rules-place.result c.requires.place c.index-rules-place.is
 
 pub applied-requires-clause-absolutes : goal.applied-requires-clause-absolutes
 applied-requires-clause-absolutes c = sized_at c.args.space c.args.rules.now c.args.absolutes.now c.args.place c.index-rules-place.result c.index-absolutes-place.result c.requires.absolutes c.requires.place c.index-rules-place.is c.index-absolutes-place.is

@@ -1,4 +1,4 @@
-use Rattle.std.proofs.Common.{◌≡◌, ◌∷◌, [], ◌++◌, arith, sym, subst}
+use Rattle.std.proofs.Common.{◌≡◌, ◌∷◌, [], ◌++◌, arith, ap, sym, subst, ◌∙◌}
 use Rattle.std.specs.List.{AllByRecursion as Every}
 use Rattle.std.proofs.lemmas.Grind.{common_steps}
 use Rattle.std.proofs.lemmas.Result.{err_from_is_err_and}
@@ -6,14 +6,20 @@ use Rattle.lie_solved.specs.SolvedForms.{solved_equations}
 use Rattle.lie_systems.specs.Bulk.{IsFormWithinLimits}
 use Rattle.lie_math.proofs.EveryElement.{every-append}
 use Rattle.lie_reduce.specs.Reductions.{CanReduce}
+use Rattle.lie_geometry.specs.Coordinates.{coordinates_up_to}
+use Rattle.lie_symbolic.specs.SymbolicCoefficients.{coefficients_among}
+use Rattle.lie_determining.specs.AppliedForms.{AreCoordinateForms}
+use Rattle.lie_determining.proofs.CoordinateForms.{forms_are}
 use Rattle.lie_reduce.proofs.AbsoluteRules.{can_reduce}
-use Rattle.lie_determining.proofs.ConditionSteps.{coefficient_cause, place_cause, made_more, done_more, all_done}
+use Rattle.lie_determining.proofs.ConditionSteps.{place_cause, made_more, done_more, all_done}
 use Rattle.lie_determining.proofs.conditions.reduced_conditions.Goals as goal
 
-pub returns-in_err-forms-clause-past : goal.returns-in_err-forms-clause-past
-returns-in_err-forms-clause-past c =
-    let p = err_from_is_err_and c.from_residual.result c.from_residual.ensures.1 in
-    rw (p.1, p.2) (coefficient_cause c.args.space (solved_equations c.args.space c.args.rules.now) c.in-Ok.order _ c.in-Ok.ensures.order c.in_err-forms.ensures.past)
+pub condition-requires-clause-forms : goal.condition-requires-clause-forms
+condition-requires-clause-forms c =
+    let S = c.args.space in
+    subst (AreCoordinateForms S (solved_equations S c.args.rules.now)) (sym c.as_slice-in-loop-place-2.ensures.value)
+    (forms_are S c.args.rules.now c.in_ok-numbers.numbers.items c.in_ok-numbers.ensures c.in_ok-order.order c.in_ok-order.ensures.order c.in_ok-forms.forms.items
+    (c.in_ok-forms.ensures ∙ ap (λ ns. coefficients_among S ns (coordinates_up_to S c.in_ok-order.order)) c.as_slice.ensures.value))
 
 pub returns-in_err-next-clause-past : goal.returns-in_err-next-clause-past
 returns-in_err-next-clause-past c =
@@ -33,4 +39,4 @@ loop-place-preserved c =
     }
 
 pub returns-clause-fits : goal.returns-clause-fits
-returns-clause-fits c = all_done c.args.space c.args.rules.now c.in-Ok.order c.loop-place.place c.in-Ok.ensures.order c.in_ok-forms.ensures.fits c.loop-place-test.false c.loop-place.invariant.done
+returns-clause-fits c = all_done c.args.space c.args.rules.now c.in_ok-order.order c.loop-place.place c.space_is_small.ensures c.in_ok-order.ensures.order c.in_ok-order.ensures.low c.coefficients_are_within_limits.ensures c.loop-place-test.false c.loop-place.invariant.done

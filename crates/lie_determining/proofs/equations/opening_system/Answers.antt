@@ -8,14 +8,14 @@ use Rattle.lie_determining.proofs.equations.opening_system.Goals as goal
 
 pub returns-in-None-clause-past : goal.returns-in-None-clause-past
 returns-in-None-clause-past c =
-    let count : triple_count_of_all c.as_slice.result.now + triple_count_of_all c.as_slice-2.result.now ≡ triple_count_of_all c.in-Ok.equations.items + triple_count_of_all (determining_system c.args.space c.in-Ok.equations.items).general =
-    ap₂ (λ (es fs : List LinearForm). triple_count_of_all es + triple_count_of_all fs) c.as_slice.ensures.value (c.as_slice-2.ensures.value ∙ c.in-Ok-general.ensures) in (
+    let count : triple_count_of_all c.as_slice.result.now + triple_count_of_all c.as_slice-2.result.now ≡ triple_count_of_all c.in_ok-equations.equations.items + triple_count_of_all (determining_system c.args.space c.in_ok-equations.equations.items).general =
+    ap₂ (λ (es fs : List LinearForm). triple_count_of_all es + triple_count_of_all fs) c.as_slice.ensures.value (c.as_slice-2.ensures.value ∙ c.in_ok-general.ensures) in (
       refl,
-      (determining_system c.args.space c.in-Ok.equations.items, (c.in-Ok.equations.items, c.in-Ok.ensures, refl), subst (λ n. 1000000 < n) count c.in-None.ensures),
+      (determining_system c.args.space c.in_ok-equations.equations.items, (c.in_ok-equations.equations.items, c.in_ok-equations.ensures, refl), subst (λ n. 1000000 < n) count c.in-None.ensures),
     )
 
 pub new-requires : goal.new-requires
 new-requires c =
     subst (IsValid (c.args.space.p + c.args.space.q))
-    (sym (system_is c.args.space c.in-Ok-unknowns.unknowns.items c.in-Ok.equations.items c.in-Ok-general.general.items (c.count_z-next.result + 1) c.in-Ok-unknowns.ensures c.in-Ok-general.ensures (ap (λ n. n + 1) c.count_z-next.ensures.count ∙ add-one (c.args.space.p + c.args.space.q))))
-    (opening_is_valid c.args.space c.args.conditions.now c.in-Ok.equations.items c.requires.derivatives c.in-Ok.ensures)
+    (sym (system_is c.args.space c.in_ok-unknowns.unknowns.items c.in_ok-equations.equations.items c.in_ok-general.general.items (c.count_z-next.result + 1) c.in_ok-unknowns.ensures c.in_ok-general.ensures (ap (λ n. n + 1) c.count_z-next.ensures.count ∙ add-one (c.args.space.p + c.args.space.q))))
+    (opening_is_valid c.args.space c.args.conditions.now c.in_ok-equations.equations.items c.requires.derivatives c.in_ok-equations.ensures)

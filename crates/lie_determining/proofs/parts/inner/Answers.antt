@@ -12,11 +12,11 @@ loop-pair-preserved c =
     ∙ ap₂ (λ (qs : List (ℕ × ℕ)) n. qs ++ cond (ltb p.0 n) (p ∷ []) []) c.loop-pair.invariant c.count_z-bound.ensures.count
     ∙ sym (pairs_more (is_in_z c.args.space) c.pairs-pair-items.result.now c.loop-pair.pair-index (0, 0) c.loop-pair-test.true)
 
-pub monomial_of-requires : goal.monomial_of-requires
-monomial_of-requires c =
+pub of_pairs-requires : goal.of_pairs-requires
+of_pairs-requires c =
     (made (is_in_z c.args.space) c.args.mono.now c.pairs-pair-items.result.now c.as_slice.result.now c.loop-pair.pair-index c.pairs-pair-items.ensures (omega (arith, c.loop-pair-test.false)) (c.as_slice.ensures.value ∙ c.loop-pair.invariant)).0
 
 pub returns : goal.returns
 returns c =
-    subst (λ (m : Monomial). IfOk c.monomial_of.result (λ (n : Monomial). n ≡ m))
-    (made (is_in_z c.args.space) c.args.mono.now c.pairs-pair-items.result.now c.as_slice.result.now c.loop-pair.pair-index c.pairs-pair-items.ensures (omega (arith, c.loop-pair-test.false)) (c.as_slice.ensures.value ∙ c.loop-pair.invariant)).1 c.monomial_of.ensures
+    subst (λ (m : Monomial). IfOk c.of_pairs.result (λ (n : Monomial). n ≡ m))
+    (made (is_in_z c.args.space) c.args.mono.now c.pairs-pair-items.result.now c.as_slice.result.now c.loop-pair.pair-index c.pairs-pair-items.ensures (omega (arith, c.loop-pair-test.false)) (c.as_slice.ensures.value ∙ c.loop-pair.invariant)).1 c.of_pairs.ensures

@@ -16,12 +16,12 @@ use Rattle.lie_determining.proofs.symbolic_reduction.symbolic_reduction.Goals as
 pub returns-in_err-bulk-clause-past : goal.returns-in_err-bulk-clause-past
 returns-in_err-bulk-clause-past c =
     let p = err_from_is_err_and c.from_residual-in_err-bulk.result c.from_residual-in_err-bulk.ensures.1 in
-    rw (p.1, p.2) (bulk_cause (solved_equations c.args.space c.args.rules.now) (solved_equations c.args.space c.args.absolutes.now) c.requires.absolutes c.args.form.now c.in_ok-absolute.absolute c.in_ok-absolute.ensures.sizes _ c.in_err-bulk.ensures.past)
+    rw (p.1, p.2) (bulk_cause (solved_equations c.args.space c.args.rules.now) (solved_equations c.args.space c.args.absolutes.now) c.requires.absolutes c.args.form.now c.in_ok-absolute.absolute c.in_ok-absolute.ensures.absolute _ c.in_err-bulk.ensures.past)
 
 pub returns-in_err-within_limits-clause-past : goal.returns-in_err-within_limits-clause-past
 returns-in_err-within_limits-clause-past c =
     let p = err_from_is_err_and c.from_residual-in_err-within_limits.result c.from_residual-in_err-within_limits.ensures.1 in
-    rw (p.1, p.2) (subst (IsFormCause _) (c.in_ok-bulk.ensures.value ∙ bulk_is (solved_equations c.args.space c.args.rules.now) (solved_equations c.args.space c.args.absolutes.now) c.requires.absolutes c.args.form.now c.in_ok-absolute.absolute c.in_ok-absolute.ensures.sizes) c.in_err-within_limits.ensures.past)
+    rw (p.1, p.2) (subst (IsFormCause _) (c.in_ok-bulk.ensures.value ∙ bulk_is (solved_equations c.args.space c.args.rules.now) (solved_equations c.args.space c.args.absolutes.now) c.requires.absolutes c.args.form.now c.in_ok-absolute.absolute c.in_ok-absolute.ensures.absolute) c.in_err-within_limits.ensures.past)
 
 pub reduced_form-requires-2 : goal.reduced_form-requires-2
 reduced_form-requires-2 c = record { rules = can_reduce c.args.space c.args.rules.now c.requires.rules }
@@ -41,4 +41,4 @@ returns-in_err-within_limits-2-clause-past c =
 
 pub returns-clause-fits : goal.returns-clause-fits
 returns-clause-fits c =
-    subst IsFormWithinLimits (c.in_ok-bulk.ensures.value ∙ bulk_is (solved_equations c.args.space c.args.rules.now) (solved_equations c.args.space c.args.absolutes.now) c.requires.absolutes c.args.form.now c.in_ok-absolute.absolute c.in_ok-absolute.ensures.sizes) c.in_ok-within_limits.ensures.fits
+    subst IsFormWithinLimits (c.in_ok-bulk.ensures.value ∙ bulk_is (solved_equations c.args.space c.args.rules.now) (solved_equations c.args.space c.args.absolutes.now) c.requires.absolutes c.args.form.now c.in_ok-absolute.absolute c.in_ok-absolute.ensures.absolute) c.in_ok-within_limits.ensures.fits

@@ -14,7 +14,7 @@ use Rattle.lie_reduce.proofs.reduction.reduced.Goals.{After-deref-term-items}
 use Rattle.lie_ring.proofs.Fronts.{all_taken}
 
 listed : (c : After-deref-term-items) → c.deref-term-items.result.now ≡ c.args.p.now.list
-listed c = listed_terms c.args.p.now c.deref-term-items.result.now c.in-Ok.terms.items c.deref-term-items.ensures.value c.in-Ok.ensures
+listed c = listed_terms c.args.p.now c.deref-term-items.result.now c.in_ok-terms.terms.items c.deref-term-items.ensures.value c.in_ok-terms.ensures
 
 pub loop-term-init : goal.loop-term-init
 loop-term-init c = λ e h. (ap sum_listed c.new-made.ensures.items ∙ polynomial_of-none, ap bulk_listed c.new-made.ensures.items ∙ polynomial_of-none)
@@ -25,7 +25,7 @@ push_reduced-requires-clause-not_zero c = entry_apart c.args.p.now c.deref-term-
 pub returns-in_err-push_reduced-clause-past : goal.returns-in_err-push_reduced-clause-past
 returns-in_err-push_reduced-clause-past c = λ e h.
     let k = (goal.at.returns-in_err-push_reduced-clause-past c).After-deref-term-items in
-    let p = err_from_is_err_and c.from_residual.result c.from_residual.ensures.1 in
+    let p = err_from_is_err_and c.from_residual-in_err-push_reduced.result c.from_residual-in_err-push_reduced.ensures.1 in
     rw (p.1, p.2) (term_cause (solved_equations c.args.space c.args.rules.now) e c.in_err-push_reduced.field-0.0 c.args.p.now c.deref-term-items.result.now c.loop-term.term-index c.term-item.result (listed k) c.loop-term-test.true c.term-item.is (c.in_err-push_reduced.ensures.past e h))
 
 pub loop-term-preserved : goal.loop-term-preserved

@@ -14,20 +14,20 @@ pub loop-i-init : goal.loop-i-init
 loop-i-init c = λ e h. sym (times_one c.args.poly)
 
 pub times_power-requires : goal.times_power-requires
-times_power-requires c = λ z. term_apart unit c.index-rules-i.result.c ((every_rest (λ (r : LeadRule). ¬ (r.c ≡ pos 0)) c.args.rules.now c.loop-i.i c.index-rules-i.result c.loop-i-test.true c.index-rules-i.is c.requires.rules.factors).0) (sym c.in_ok-constant.ensures.constant ∙ z)
+times_power-requires c = λ z. term_apart unit c.index-rules-i.result.c ((every_rest (λ (r : LeadRule). ¬ (r.c ≡ pos 0)) c.args.rules.now c.loop-i.i c.index-rules-i.result c.loop-i-test.true c.index-rules-i.is c.requires.rules.factors).0) (sym c.in_ok-factor.ensures ∙ z)
 
 pub returns-in_err-product-clause-past : goal.returns-in_err-product-clause-past
 returns-in_err-product-clause-past c = λ e h.
     let p = err_from_is_err_and c.from_residual-in_err-product.result c.from_residual-in_err-product.ensures.1 in
-    rw (p.1, p.2) (missing_cause c.args.space e c.args.mono.now c.in_err-product.field-0.0 c.args.rules.now c.loop-i.i c.index-rules-i.result c.saturating_sub-missing.result c.in_ok-constant.field-0 c.args.poly c.loop-i.product c.loop-i-test.true c.index-rules-i.is
+    rw (p.1, p.2) (missing_cause c.args.space e c.args.mono.now c.in_err-product.field-0.0 c.args.rules.now c.loop-i.i c.index-rules-i.result c.saturating_sub-missing.result c.in_ok-factor.factor c.args.poly c.loop-i.product c.loop-i-test.true c.index-rules-i.is
     (missing_count c.args.space e c.args.mono.now c.args.rules.now c.args.greatest.now c.loop-i.i c.index-rules-i.result c.saturating_sub-missing.result c.exponent.result c.jet_number.result h c.loop-i-test.true c.index-rules-i.is c.saturating_sub-missing.ensures c.exponent.ensures c.jet_number.ensures.number)
-    c.in_ok-constant.ensures.constant c.requires.rules.factors (c.loop-i.invariant e h) c.in_err-product.ensures.past)
+    c.in_ok-factor.ensures c.requires.rules.factors (c.loop-i.invariant e h) c.in_err-product.ensures.past)
 
 pub loop-i-preserved : goal.loop-i-preserved
 loop-i-preserved c = λ e h.
-    missing_more c.args.space e c.args.mono.now c.args.rules.now c.loop-i.i c.index-rules-i.result c.saturating_sub-missing.result c.in_ok-constant.field-0 c.args.poly c.loop-i.product c.in_ok-product.product c.loop-i-test.true c.index-rules-i.is
+    missing_more c.args.space e c.args.mono.now c.args.rules.now c.loop-i.i c.index-rules-i.result c.saturating_sub-missing.result c.in_ok-factor.factor c.args.poly c.loop-i.product c.in_ok-product.product c.loop-i-test.true c.index-rules-i.is
     (missing_count c.args.space e c.args.mono.now c.args.rules.now c.args.greatest.now c.loop-i.i c.index-rules-i.result c.saturating_sub-missing.result c.exponent.result c.jet_number.result h c.loop-i-test.true c.index-rules-i.is c.saturating_sub-missing.ensures c.exponent.ensures c.jet_number.ensures.number)
-    c.in_ok-constant.ensures.constant (c.loop-i.invariant e h) c.in_ok-product.ensures.product
+    c.in_ok-factor.ensures (c.loop-i.invariant e h) c.in_ok-product.ensures.product
 
 pub returns-clause-product : goal.returns-clause-product
 returns-clause-product c = λ e h. c.loop-i.invariant e h ∙ ap (λ x. c.args.poly *ᴾ x) (ap (product (missing_power c.args.space e c.args.mono.now)) (all_taken c.args.rules.now c.loop-i.i c.loop-i-test.false) ∙ missing_is c.args.space e c.args.mono.now c.args.rules.now)

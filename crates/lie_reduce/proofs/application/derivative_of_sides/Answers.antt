@@ -4,14 +4,14 @@ use Rattle.lie_math.specs.Polynomial.{constant, ◌*ᴾ◌}
 use Rattle.lie_jet.proofs.TotalParts.{if_ok}
 use Rattle.lie_jet.proofs.TotalSteps.{if_err}
 use Rattle.lie_reduce.proofs.ApplicationSteps.{slope_at_lead, slope_elsewhere, derive_cause, scale_cause}
-use Rattle.lie_reduce.proofs.application.slope.Goals as goal
+use Rattle.lie_reduce.proofs.application.derivative_of_sides.Goals as goal
 
 pub returns-then-number-lead-clause-slope : goal.returns-then-number-lead-clause-slope
-returns-then-number-lead-clause-slope c = if_ok c.constant.result (λ made h. h ∙ slope_at_lead c.args.number c.args.lead c.args.rule.now.c c.args.sign c.args.rule.now.right c.if-number-lead.true c.requires.free) c.constant.ensures.constant
+returns-then-number-lead-clause-slope c = c.in_ok-constant_polynomial.ensures ∙ slope_at_lead c.args.number c.args.lead c.args.rule.now.c c.args.sign c.args.rule.now.right c.if-number-lead.true c.requires.free
 
 pub returns-in_err-derivative-clause-past : goal.returns-in_err-derivative-clause-past
 returns-in_err-derivative-clause-past c =
-    let p = err_from_is_err_and c.from_residual.result c.from_residual.ensures.1 in
+    let p = err_from_is_err_and c.from_residual-in_err-derivative.result c.from_residual-in_err-derivative.ensures.1 in
     rw (p.1, p.2) (derive_cause c.in_err-derivative.field-0.0 c.args.number c.args.lead c.args.rule.now.c c.args.rule.now.right c.if-number-lead.false c.in_err-derivative.ensures.past)
 
 pub returns-clause-slope : goal.returns-clause-slope
