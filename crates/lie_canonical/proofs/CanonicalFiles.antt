@@ -8,10 +8,10 @@ use Rattle.std.proofs.lemmas.List.Elements.{All-from_recursion}
 use Rattle.std.proofs.lemmas.List.{append-nil, length-append, length-map}
 use Rattle.lie_geometry.specs.Coordinates.{Space, Coordinate}
 use Rattle.lie_jet.specs.Jets.{IsSmall}
-use Rattle.lie_canonical.specs.CanonicalText.{names_line, polynomial_text, right_side, sides_text, equation_text, canonical_text}
+use Rattle.lie_canonical.specs.CanonicalText.{polynomial_text, right_side, sides_text, equation_text, canonical_text}
 use Rattle.lie_system.specs.LeadsAlone.{lead_alone, lead_or, with_lead, with_leads}
 use Rattle.lie_system.specs.Systems.{EquationRead, SystemRead}
-use Rattle.lie_print.specs.Printing.{coordinate_text}
+use Rattle.lie_print.specs.Printing.{names_line, coordinate_text}
 use Rattle.lie_canonical.specs.RightSides.{IsOfFile}
 use Rattle.lie_scan.specs.SumGrammar.{HasLead, IsEquation}
 use Rattle.lie_file.specs.FileGrammar.{AreEquations, AreSystem, begins_line_end, is_allowed, AreAllowed, IsFile}

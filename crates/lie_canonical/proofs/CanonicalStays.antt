@@ -11,13 +11,14 @@ use Rattle.lie_geometry.specs.Coordinates.{Space, Coordinate, coordinate, coordi
 use Rattle.lie_geometry.proofs.NumberOrder.{order_below}
 use Rattle.lie_geometry.proofs.Numbers.{coordinate_is}
 use Rattle.lie_jet.specs.Jets.{IsSmall}
-use Rattle.lie_canonical.specs.CanonicalText.{names_line, polynomial_text, right_side, sides_text, equation_text, canonical_text}
+use Rattle.lie_canonical.specs.CanonicalText.{polynomial_text, right_side, sides_text, equation_text, canonical_text}
 use Rattle.lie_file.specs.FileGrammar.{AreEquations, IsFile}
 use Rattle.lie_system.specs.LeadsAlone.{lead_alone, lead_or, with_lead, with_leads}
 use Rattle.lie_system.specs.Systems.{EquationRead, SystemRead}
-use Rattle.lie_print.specs.Printing.{coordinate_text, variable_text, sum_text}
+use Rattle.lie_print.specs.Printing.{names_line, coordinate_text, variable_text, sum_text}
 use Rattle.lie_canonical.specs.RightSides.{plain_terms}
-use Rattle.lie_canonical.proofs.CanonicalLeads.{AreDerivative, alone-is, alone_text}
+use Rattle.lie_system.proofs.DerivativesAlone.{AreDerivative, alone-is}
+use Rattle.lie_canonical.proofs.CanonicalLeads.{alone_text}
 use Rattle.lie_system.proofs.LeadNumbers.{list-single}
 use Rattle.lie_canonical.proofs.CanonicalTerms.{diff_low}
 use Rattle.lie_file.proofs.WellNamed.{well_named}

@@ -9,7 +9,7 @@ use Rattle.std.proofs.lemmas.List.{append-nil, length-append}
 use Rattle.lie_math.specs.Counts.{order}
 use Rattle.lie_geometry.specs.Coordinates.{Space, Coordinate, independent, jet}
 use Rattle.lie_scan.specs.declared.runs.Class.TheVariants.{Letter, Digit}
-use Rattle.lie_scan.specs.Names.{place_from, place_of, counts_from, counts_of, one_more, variable_at}
+use Rattle.lie_scan.specs.Names.{place_from, place_of, counts_from, letter_counts, one_more, variable_at}
 use Rattle.lie_print.specs.Printing.{name_at, repeated, letters_from, coordinate_text}
 use Rattle.lie_scan.specs.Runs.{is_in}
 use Rattle.lie_scan.specs.TokenGrammar.{BeginsOutside, IsNot, IsNumber, IsCoordinateAt}
@@ -163,7 +163,7 @@ module _ (ind dep : List ℕ) (distinct : AreDistinct [] ind) where
       ∙ ap (λ k. counts_from ind k more) (sym (append_assoc xs (c ∷ []) zs))
       ∙ letters_counts (i + 1) J (xs ++ c ∷ []) ys (omega arith) (omega arith) ∙ append_assoc xs (c ∷ []) (J ++ ys)
 
-  letters_read : (J : List ℕ) → length J ≡ length ind → length ind ≤ 4 → take (length ind) (counts_of ind (letters_from (ind ++ dep) 0 J)) ≡ J
+  letters_read : (J : List ℕ) → length J ≡ length ind → length ind ≤ 4 → take (length ind) (letter_counts ind (letters_from (ind ++ dep) 0 J)) ≡ J
   letters_read J at few =
       let zeros : 0 ∷ 0 ∷ 0 ∷ 0 ∷ [] ≡ replicate (length J) 0 ++ replicate (4 - length J) 0 = ap (λ n. replicate n 0) (four (length J) (omega arith)) ∙ parted_zeros (length J) (4 - length J) in
       ap (λ K. take (length ind) (counts_from ind K (letters_from (ind ++ dep) 0 J))) zeros
@@ -212,7 +212,7 @@ module _ (S : Space) (ind dep : List ℕ) (p : S.p ≡ length ind) (q : S.q ≡ 
           independent = subst (λ ns. AllByRecursion (λ x. IsSome (place_of ns x)) by) (sym take_names) (letters_all ind dep distinct (λ l. IsSome (place_of ind l)) (λ l i h k. subst IsSome (sym k) refl) 0 J (omega arith));
           some = omega arith;
           few = omega arith;
-          means = ap (jet a) (sym (ap₂ (λ (k : ℕ) (ns : List ℕ). take k (counts_of ns by)) p take_names ∙ letters_read ind dep distinct J long few));
+          means = ap (jet a) (sym (ap₂ (λ (k : ℕ) (ns : List ℕ). take k (letter_counts ns by)) p take_names ∙ letters_read ind dep distinct J long few));
         });
       }
 

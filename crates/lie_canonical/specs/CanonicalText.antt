@@ -5,12 +5,8 @@ use Rattle.std.specs.List.{flat_map}
 use Rattle.lie_math.specs.Polynomial.{WholePolynomial, variable, negᴾ, ◌+ᴾ◌}
 use Rattle.lie_geometry.specs.Coordinates.{Space, Coordinate, number}
 use Rattle.lie_system.specs.Systems.{EquationRead, SystemRead}
-use Rattle.lie_print.specs.Printing.{coordinate_text, sum_text}
+use Rattle.lie_print.specs.Printing.{names_line, coordinate_text, sum_text}
 use Rattle.lie_print.specs.PrintedTerms.{polynomial_terms}
-
--- a keyword and names, each behind a blank
-abbrev pub names_line : List ℕ → List ℕ → List ℕ
-names_line keyword names = keyword ++ flat_map (λ n. 32 ∷ n ∷ []) names ++ codes "\n"
 
 abbrev pub polynomial_text : Space → List ℕ → WholePolynomial → List ℕ
 polynomial_text S names P = sum_text S names (polynomial_terms P)

@@ -10,11 +10,12 @@ use Rattle.lie_geometry.specs.Coordinates.{Space, Coordinate, IsCoordinate, orde
 use Rattle.lie_system.specs.Systems.{EquationRead, SystemRead}
 use Rattle.lie_file.specs.FileGrammar.{IsFile}
 use Rattle.lie_print.specs.Printing.{PrintedTerm}
+use Rattle.lie_system.specs.Limits.{greatest_written_order}
 
--- a coordinate of an order up to 6, which minus diff is within the limit of numbers
+-- a coordinate of a written order, which minus diff is within the limit of numbers
 pub record HasRightSide (S : Space) (c : Coordinate) (diff : WholePolynomial) : Type 0 where
   pub coordinate : IsCoordinate S c
-  pub low : order_of c ≤ 6
+  pub low : order_of c ≤ greatest_written_order
   pub fits : FitsNumber (pos 1 +ℤ neg_ℤ (coefficient diff (single (number S c))))
 
 -- an equation that has its text

@@ -41,6 +41,7 @@ use Rattle.lie_scan.specs.SumGrammar.{sign_of, IsFirstSign}
 use Rattle.lie_scan.specs.LineFaults.{IsLetters, IsName}
 use Rattle.lie_fieldtext.specs.declared.field_term.FieldTerm.{FieldTerm}
 use Rattle.lie_fieldtext.specs.FieldMeaning.{AreWithinLimits}
+use Rattle.lie_scan.specs.Limits.{greatest_text_length}
 use Rattle.lie_fieldtext.specs.FieldGrammar.{
   begins_base,
   IsVariable,
@@ -70,7 +71,7 @@ pub data IsFactorFault (names text : List ℕ) : Stop → Type 0 where
   -- behind `^` there is no digit
   no_exponent : (place : ℕ) (behind front : List ℕ) → IsVariable names text place behind → IsSign 94 behind front
       → BeginsOutside Digit (after_blanks front) → IsFactorFault names text (stop Syntax (after_blanks front))
-  -- the exponent is not 1 to 32
+  -- the exponent is 0 or past the greatest
   wrong_exponent : (place : ℕ) (behind front : List ℕ) (e : ℕ) (rest : List ℕ) → IsVariable names text place behind
       → IsSign 94 behind front → IsNumber front e rest → ((e ≡ 0) ⊎ (33 ≤ e))
       → IsFactorFault names text (stop Exponent (after_blanks text))
@@ -92,7 +93,7 @@ pub data IsFieldTermFault (names text : List ℕ) : Stop → Type 0 where
       → IsFieldTermFault names text (stop Syntax (after_blanks rest))
   in_factor : (n d : ℕ) (powers : List (ℕ × ℕ)) (front : List ℕ) (s : Stop) → IsFieldTermFront names text n d powers front
       → IsFactorFault names front s → IsFieldTermFault names text s
-  -- with this power the exponents of its variable sum to more than 32
+  -- with this power the exponents of its variable sum to more than the greatest
   high_exponent : (n d : ℕ) (powers : List (ℕ × ℕ)) (front : List ℕ) (p : ℕ × ℕ) (rest : List ℕ)
       → IsFieldTermFront names text n d powers front → IsVariablePower names front p rest
       → 33 ≤ exponent (product unit powers · power_of p.0 p.1) p.0 → IsFieldTermFault names text (stop Exponent (after_blanks front))
@@ -130,9 +131,9 @@ not_in_line_from column (b ∷ bs) = if is_in_line b then not_in_line_from (colu
 -- the first fault of bytes
 pub data IsFieldFault (names bytes : List ℕ) : ReadFail → Type 0 where
   too_long : 65537 ≤ length bytes → IsFieldFault names bytes (bad 1 1 TooLong)
-  not_allowed : (column : ℕ) → length bytes ≤ 65536 → not_in_line_from 1 bytes ≡ Some column
+  not_allowed : (column : ℕ) → length bytes ≤ greatest_text_length → not_in_line_from 1 bytes ≡ Some column
       → IsFieldFault names bytes (bad 1 column NotAscii)
-  in_sum : (s : Stop) → length bytes ≤ 65536 → AllByRecursion (λ b. is_in_line b ≡ true) bytes → (IsZeroText bytes → ⊥)
+  in_sum : (s : Stop) → length bytes ≤ greatest_text_length → AllByRecursion (λ b. is_in_line b ≡ true) bytes → (IsZeroText bytes → ⊥)
       → IsFieldSumFault names bytes s
       → IsFieldFault names bytes (bad 1 (length bytes - s.left + 1) s.kind)
 

@@ -71,7 +71,7 @@ IsCoefficient text n d rest =
     ⊎ ((n ≡ 1) × (d ≡ 1) × (text ≡ rest) × BeginsOutside Digit (after_blanks text))
 
 -- ---- terms
--- a coefficient and powers; the exponents of their product are at most 32
+-- a coefficient and powers; the exponents of their product are not past the greatest
 pub record IsFieldTermFront (names text : List ℕ) (n d : ℕ) (powers : List (ℕ × ℕ)) (rest : List ℕ) : Type 0 where
   pub behind : List ℕ
   pub coefficient : IsCoefficient text n d behind

@@ -43,6 +43,7 @@ use Rattle.lie_scan.specs.Terms.{raised}
 use Rattle.lie_fieldtext.specs.FieldMeaning.{common_denominator, size_over}
 use Rattle.lie_fieldtext.specs.FieldGrammar.{begins_base}
 use Rattle.lie_fieldtext.specs.FieldFaults.{not_in_line_from}
+use Rattle.lie_scan.specs.Limits.{greatest_text_length}
 
 -- ---- coefficients
 abbrev pub star_by : List ℕ → Result (List ℕ) Stop
@@ -187,4 +188,5 @@ read_by None names bytes = placed bytes (terms_of names bytes)
 
 -- the terms of bytes, or their first fault
 unfoldable pub read_terms : List ℕ → List ℕ → Result (List FieldTerm) ReadFail
-read_terms names bytes = if nat_lt 65536 (length bytes) then Err (bad 1 1 TooLong) else read_by (not_in_line_from 1 bytes) names bytes
+read_terms names bytes =
+    if nat_lt greatest_text_length (length bytes) then Err (bad 1 1 TooLong) else read_by (not_in_line_from 1 bytes) names bytes

@@ -7,11 +7,11 @@ ghost use Rattle.lie_fieldtext.specs.FieldFaults.{IsFieldFault, IsFieldFaultTold
 ghost use Rattle.lie_fieldtext.specs.FieldGrammar.{IsFieldText, is_in_line};
 ghost use Rattle.lie_fieldtext.specs.FieldReading.{read_terms};
 ghost use Rattle.lie_scan.specs.ReadFails.{Answers};
+ghost use Rattle.lie_scan.specs.Limits.{greatest_text_length};
 
 use crate::field_parts::field_of;
 use crate::field_sum::terms_of;
 use crate::field_terms::FieldTerms;
-use lie_bytes::NoMemory;
 use lie_jet::Field;
 use lie_scan::fault::{BadKind, MAX_BYTES, ReadFail, bad};
 use lie_scan::stop::LineFail;
@@ -27,7 +27,7 @@ fn is_in_line(byte: u8) -> bool
 
 // The column of the first byte that is not allowed.
 fn first_not_in_line(bytes: &[u8]) -> Option<usize>
-    requires { length bytes.now ≤ 65536 }
+    requires { length bytes.now ≤ greatest_text_length }
     ensures { result ≡ not_in_line_from 1 bytes.now }
 {
     let mut column = 1;
@@ -65,23 +65,20 @@ fn read_terms(alloc: Global, bytes: &[u8], names: &[u8]) -> Result<FieldTerms, R
 /// The field whose text the bytes are, with the names of a system, or their first fault.
 pub fn read_field(alloc: Global, bytes: &[u8], system: &System) -> Result<Field, ReadFail>
     // What is read is the text of the field, of at most 65,536 bytes.
-    ensures found { IfOk result (λ field. IsFieldText system.now.space system.now.names bytes.now field × (length bytes.now ≤ 65536)) }
+    ensures found { IfOk result (λ field. IsFieldText system.now.space system.now.names bytes.now field
+        × (length bytes.now ≤ greatest_text_length)) }
     // It is a field on the space, in lowest terms.
     ensures valid { IfOk result (IsValidField system.now.space) }
     // A text of at most 65,536 bytes is read as its field, unless memory runs out.
     ensures only { (V : VectorField) → IsFieldText system.now.space system.now.names bytes.now V
-        → length bytes.now ≤ 65536 → Answers (λ field. field) result (Ok V) }
+        → length bytes.now ≤ greatest_text_length → Answers (λ field. field) result (Ok V) }
     // A fault that is told is the first fault of the bytes.
     ensures fault { IsFieldFaultToldOf system.now.names bytes.now result }
     // The first fault is told, unless memory runs out.
     ensures stops { (f : AFault) → IsFieldFault system.now.names bytes.now f → Answers (λ field. field) result (Err f) }
 {
-    let space = system.space;
     match read_terms(alloc, bytes, system.names.bytes()) {
-        Ok(terms) => match field_of(alloc, space, &terms) {
-            Ok(field) => Ok(field),
-            Err(NoMemory) => Err(ReadFail::NoMemory),
-        },
+        Ok(terms) => Ok(field_of(alloc, system.space, &terms)?),
         Err(fail) => Err(fail),
     }
 }

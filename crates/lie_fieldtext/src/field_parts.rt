@@ -3,7 +3,7 @@ ghost use Rattle.std.specs.Prelude.{◌≡◌, ◌≤◌, ◌<◌, ◌+◌, ◌*
 ghost use Rattle.std.specs.Prelude.{[], ◌∷◌, ◌++◌, length, get_or, map, IfOk};
 ghost use Rattle.std.specs.List.{AllByRecursion as Every};
 ghost use Rattle.std.specs.Int.{◌∣◌};
-ghost use Rattle.lie_math.specs.Limits.{IsWithinLimits, absolutes};
+ghost use Rattle.lie_math.specs.Limits.{IsWithinLimits, absolutes, greatest_term_count};
 ghost use Rattle.lie_math.specs.Polynomial.{polynomial_of, constant, 0ᴾ, ◌*ᴾ◌};
 ghost use Rattle.lie_scan.specs.Exponents.{HasSmallExponents};
 ghost use Rattle.lie_fieldtext.specs.FieldMeaning.{terms_over, IsSumOfTerms};
@@ -16,7 +16,7 @@ use crate::fraction::common_divisor;
 use lie_bytes::NoMemory;
 use lie_jet::{Field, JetPoly, Space};
 use lie_ring::{Mono, Polynomial, Ring, Whole};
-use lie_scan::within_limits::sum_within_limits;
+use lie_system::sum_within_limits;
 use std::alloc::Global;
 
 // The number of a term over a denominator.
@@ -49,13 +49,9 @@ fn push_term(
     let mut list = list;
     if term.place == place {
         let monomial = term.monomial.copy(alloc)?;
-        match list.push((monomial, number_over(denominator, term))) {
-            Ok(()) => Ok(list),
-            Err(_) => Err(NoMemory),
-        }
-    } else {
-        Ok(list)
+        list.push((monomial, number_over(denominator, term)))?;
     }
+    Ok(list)
 }
 
 // The sum of the terms at a place, over a denominator.
@@ -152,10 +148,15 @@ fn push_divided(
 {
     let mut list = list;
     let monomial = term.0.copy(alloc)?;
-    match list.push((monomial, quotient(term.1, divisor))) {
-        Ok(()) => Ok(list),
-        Err(_) => Err(NoMemory),
-    }
+    list.push((monomial, quotient(term.1, divisor)))?;
+    Ok(list)
+}
+
+// Every polynomial is within the limits: what its length tells.
+fn known_within_limits(part: &JetPoly)
+    ensures { IsWithinLimits part.now }
+{
+    let _length = part.len();
 }
 
 // A part divided by a number that divides each coefficient.
@@ -166,8 +167,7 @@ fn divided(alloc: Global, divisor: u128, part: &JetPoly) -> Result<JetPoly, NoMe
     ensures { IfOk result (λ rest. constant (pos divisor) *ᴾ rest ≡ part.now) }
 {
     let mut list: Vec<(Mono, Whole)> = Vec::new(alloc);
-    // Counting the terms tells that the part is within the limits.
-    let _ = part.len();
+    known_within_limits(part);
     let terms = part.terms(alloc)?;
     for term in terms.as_slice() {
         list = push_divided(list, alloc, divisor, term)?;
@@ -193,7 +193,7 @@ fn all_divided(alloc: Global, divisor: u128, parts: &[JetPoly]) -> Result<Vec<Je
 pub fn field_of(alloc: Global, space: Space, terms: &FieldTerms) -> Result<Field, NoMemory>
     requires terms { Every (IsTermIn (space.p + space.q)) terms.now.list.items }
     requires small { Every (λ t. HasSmallExponents t.monomial) terms.now.list.items }
-    requires few { length terms.now.list.items ≤ 1000000 }
+    requires few { length terms.now.list.items ≤ greatest_term_count }
     ensures { IfOk result (IsSumOfTerms space terms.now.list.items) }
 {
     let parts = parts_of(

@@ -172,10 +172,8 @@ fn with_last(list: Vec<FieldTerm>, term: FieldTerm) -> Result<Vec<FieldTerm>, No
     ensures { IfOk result (λ new. new.items ≡ list.items ++ term ∷ []) }
 {
     let mut list = list;
-    match list.push(term) {
-        Ok(()) => Ok(list),
-        Err(_) => Err(NoMemory),
-    }
+    list.push(term)?;
+    Ok(list)
 }
 
 impl FieldTerms {

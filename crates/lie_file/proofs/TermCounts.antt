@@ -1,5 +1,5 @@
 -- Each term of a sum but the first takes a byte of the text, so that there are few terms.
-use Rattle.std.specs.Prelude.{ℕ, ◌+◌, ◌≡◌, ◌≤◌, Bool, true, false, ◌==◌, List, [], ◌∷◌, length, ℤ, Ok, if◌then◌else◌, refl}
+use Rattle.std.specs.Prelude.{ℕ, ◌+◌, ◌≡◌, ◌≤◌, Bool, true, false, ◌==◌, List, [], ◌∷◌, length, ℤ, Ok, if◌then◌else◌}
 use Rattle.std.proofs.Common.{length-append, ap, subst, arith}
 use Rattle.lie_math.specs.Monomial.{Monomial}
 use Rattle.lie_geometry.specs.Coordinates.{Space}

@@ -30,6 +30,8 @@ use Rattle.lie_file.specs.FileGrammar.{IsWord, IsHeader, AreNames, IsNamesLine, 
 use Rattle.lie_file.specs.Places.{next_line, fault_at, placed, last_length, file_fault, not_allowed_from}
 use Rattle.lie_scan.specs.Bad.{bad}
 use Rattle.lie_scan.specs.LineFaults.{IsEquationFault}
+use Rattle.lie_scan.specs.Limits.{greatest_text_length}
+use Rattle.lie_system.specs.Limits.{greatest_variable_count, greatest_equation_count}
 
 -- ---- where the names of a line must come
 abbrev pub IsLetter : List ℕ → Type 0
@@ -39,11 +41,13 @@ pub data IsNamesFault (before text : List ℕ) : Stop → Type 0 where
   -- there is no word
   no_names : AreBlanks text → IsNamesFault before text (stop Syntax [])
   -- the word is not one letter
-  bad_name : (names rest word behind : List ℕ) → AreNames before text names rest → length names ≤ 4 → IsWord word rest behind
+  bad_name : (names rest word behind : List ℕ) → AreNames before text names rest → length names ≤ greatest_variable_count
+      → IsWord word rest behind
       → AreIn Word word → 1 ≤ length word → (IsLetter word → ⊥)
       → IsNamesFault before text (stop NameBad (after_blanks rest))
   -- four names are before
-  fifth_name : (names rest word behind : List ℕ) → AreNames before text names rest → length names ≡ 4 → IsWord word rest behind
+  fifth_name : (names rest word behind : List ℕ) → AreNames before text names rest → length names ≡ greatest_variable_count
+      → IsWord word rest behind
       → IsLetter word → IsNamesFault before text (stop TooManyNames (after_blanks rest))
   -- the name is given before
   second_name : (names rest : List ℕ) (l : ℕ) (behind : List ℕ) → AreNames before text names rest → length names ≤ 3
@@ -81,7 +85,7 @@ pub data IsLineFault (S : Space) (names : List ℕ) (before : List EquationRead)
       → IsLineFault S names before lines (fault_at UnknownWord content (length behind) (after_blanks content))
   -- sixteen equations are before
   seventeenth : (content text : List ℕ) (behind : List (List ℕ)) → IsNext lines content behind → IsWord (codes "eq") content text
-      → 16 ≤ length before
+      → greatest_equation_count ≤ length before
       → IsLineFault S names before lines (fault_at TooManyEquations content (length behind) (after_blanks content))
   in_equation : (content text : List ℕ) (behind : List (List ℕ)) (s : Stop) → IsNext lines content behind
       → IsWord (codes "eq") content text → length before ≤ 15 → IsEquationFault S names text s
@@ -114,16 +118,16 @@ pub data IsLinesFault (lines : List (List ℕ)) : FileFail → Type 0 where
       → IsNext behind vars rest → IsNamesLine (codes "vars") [] vars independent → IsNext rest deps body
       → IsNamesLine (codes "deps") independent deps dependent
       → AreEquationLines (record { p = length independent; q = length dependent }) (independent ++ dependent) body before left
-      → length before ≤ 16
+      → length before ≤ greatest_equation_count
       → IsLineFault (record { p = length independent; q = length dependent }) (independent ++ dependent) before left f
       → IsLinesFault lines f
 
 -- the first fault of bytes
 pub data IsFault (bytes : List ℕ) : ReadFail → Type 0 where
   too_long : 65537 ≤ length bytes → IsFault bytes (bad 1 1 TooLong)
-  not_allowed : (line column : ℕ) → length bytes ≤ 65536 → not_allowed_from 1 1 bytes ≡ Some (line, column)
+  not_allowed : (line column : ℕ) → length bytes ≤ greatest_text_length → not_allowed_from 1 1 bytes ≡ Some (line, column)
       → IsFault bytes (bad line column NotAscii)
-  in_lines : (f : FileFail) → length bytes ≤ 65536 → AreAllowed bytes → IsLinesFault (lines_of bytes) f
+  in_lines : (f : FileFail) → length bytes ≤ greatest_text_length → AreAllowed bytes → IsLinesFault (lines_of bytes) f
       → IsFault bytes (file_fault (lines_of bytes) f)
 
 -- the fault that a call told, where it told one, is the first

@@ -7,6 +7,7 @@ use Rattle.lie_scan.specs.Runs.{is_in, run, after_blanks}
 use Rattle.lie_system.specs.Systems.{EquationRead, SystemRead}
 use Rattle.lie_scan.specs.TokenGrammar.{AreBlanks, IsBehindBlanks}
 use Rattle.lie_scan.specs.SumGrammar.{IsEquation}
+use Rattle.lie_system.specs.Limits.{greatest_variable_count, greatest_equation_count}
 
 -- ---- words
 -- a blank is next, or nothing
@@ -34,7 +35,7 @@ AreNames before text (n ∷ ns) rest =
     (behind : List ℕ) × IsWord (n ∷ []) text behind × (is_in Letter n ≡ true) × (list_any (λ m. m == n) before ≡ false) × AreNames
     (before ++ n ∷ []) behind ns rest
 
--- a keyword and 1 to 4 names
+-- a keyword and names, at least one and not too many
 pub record IsNamesLine (keyword before content names : List ℕ) : Type 0 where
   pub behind : List ℕ
   pub rest : List ℕ
@@ -42,7 +43,7 @@ pub record IsNamesLine (keyword before content names : List ℕ) : Type 0 where
   pub are : AreNames before behind names rest
   pub ends : AreBlanks rest
   pub some : 1 ≤ length names
-  pub few : length names ≤ 4
+  pub few : length names ≤ greatest_variable_count
 
 abbrev pub IsEquationLine : Space → List ℕ → List ℕ → EquationRead → Type 0
 IsEquationLine S names content e = (behind : List ℕ) × IsWord (codes "eq") content behind × IsEquation S names behind e
@@ -56,7 +57,7 @@ AreEquations S names [] es = ⊥
 AreEquations S names (l ∷ ls) [] = IsEndLine l × (ls ≡ [])
 AreEquations S names (l ∷ ls) (e ∷ es) = IsEquationLine S names l e × AreEquations S names ls es
 
--- the header, the independent and the dependent variables, and 1 to 16 equations
+-- the header, the independent and the dependent variables, and equations, at least one and not too many
 pub record AreSystem (contents : List (List ℕ)) (s : SystemRead) : Type 0 where
   pub header : List ℕ
   pub vars : List ℕ
@@ -72,7 +73,7 @@ pub record AreSystem (contents : List (List ℕ)) (s : SystemRead) : Type 0 wher
   pub space : s.space ≡ record { p = length independent; q = length dependent }
   pub names : s.names ≡ independent ++ dependent
   pub some : 1 ≤ length s.equations
-  pub few : length s.equations ≤ 16
+  pub few : length s.equations ≤ greatest_equation_count
 
 -- ---- bytes
 abbrev pub begins_line_end : List ℕ → Bool

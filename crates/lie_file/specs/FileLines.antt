@@ -37,6 +37,8 @@ use Rattle.lie_scan.specs.Runs.{run, behind, after_blanks, is_in}
 use Rattle.lie_scan.specs.Stops.{stop, ◌>>=◌}
 use Rattle.lie_file.specs.Places.{fault_at, placed, next_line}
 use Rattle.lie_scan.specs.Turns.{Turn, goes_on, ends, all_turns}
+use Rattle.lie_scan.specs.Limits.{greatest_text_length}
+use Rattle.lie_system.specs.Limits.{greatest_variable_count}
 
 -- what a call answered, seen by view, is what reading gives, unless memory ran out
 abbrev pub FileFails : {Y : Type 0} → FileFail → Result Y FileFail → Type 0
@@ -61,7 +63,7 @@ IsFailed NoMemory content left fail = fail ≡ fails.NoMemory
 -- ---- lines
 -- no line has more bytes than a text may have
 abbrev pub AreShort : List (List ℕ) → Type 0
-AreShort lines = AllByRecursion (λ l. length l ≤ 65536) lines
+AreShort lines = AllByRecursion (λ l. length l ≤ greatest_text_length) lines
 
 -- the first word is a keyword
 abbrev pub is_word : List ℕ → List ℕ → Bool
@@ -89,7 +91,7 @@ abbrev pub name_of : List ℕ → ℕ → List ℕ → List ℕ → Result ℕ S
 name_of given count [] text = Err (stop NameBad text)
 name_of given count (c ∷ []) text =
     if is_in Letter c then
-    (if nat_le 4 count then Err (stop TooManyNames text)
+    (if nat_le greatest_variable_count count then Err (stop TooManyNames text)
     else if list_any (λ n. n == c) given then Err (stop NameTwice text)
     else Ok c)
     else Err (stop NameBad text)

@@ -16,6 +16,7 @@ use Rattle.lie_file.specs.Leads.{lead_of}
 use Rattle.lie_system.specs.Systems.{EquationRead, SystemRead}
 use Rattle.lie_file.specs.Places.{fault_at, next_line}
 use Rattle.lie_file.specs.FileLines.{in_line, is_word, behind_word, after_header, names_of}
+use Rattle.lie_system.specs.Limits.{greatest_equation_count}
 
 unfoldable pub equation_at : Space → List ℕ → List ℕ → Result EquationRead Stop
 equation_at S names text = equation_of S names text >>= λ ts. Ok (record { lead = lead_of S names text; diff = polynomial_of ts })
@@ -34,7 +35,7 @@ end_of content rest =
 -- the equation of a line behind `count` others; none where the line is the end
 abbrev pub equation_line : Space → List ℕ → ℕ → List ℕ → List (List ℕ) → Result (Option EquationRead) FileFail
 equation_line S names count content rest =
-    if nat_le 16 count then Err (fault_at TooManyEquations content (length rest) (after_blanks content))
+    if nat_le greatest_equation_count count then Err (fault_at TooManyEquations content (length rest) (after_blanks content))
     else in_line content (length rest) (equation_at S names (behind_word content)) >>= λ e. Ok (Some e)
 
 abbrev pub end_line : ℕ → List ℕ → List (List ℕ) → Result (Option EquationRead) FileFail

@@ -11,6 +11,7 @@ use Rattle.lie_file.specs.Places.{file_fault, not_allowed_from}
 use Rattle.lie_file.specs.FileGrammar.{lines_of}
 use Rattle.lie_file.specs.Files.{system_of}
 use Rattle.lie_system.specs.Systems.{SystemRead}
+use Rattle.lie_scan.specs.Limits.{greatest_text_length}
 
 abbrev pub with_place : List (List ℕ) → Result SystemRead FileFail → Result SystemRead ReadFail
 with_place lines (Ok s) = Ok s
@@ -25,4 +26,4 @@ read_by None bytes = read_lines (lines_of bytes)
 
 -- the system that bytes spell, or their first fault
 unfoldable pub read : List ℕ → Result SystemRead ReadFail
-read bytes = if nat_lt 65536 (length bytes) then Err (bad 1 1 TooLong) else read_by (not_allowed_from 1 1 bytes) bytes
+read bytes = if nat_lt greatest_text_length (length bytes) then Err (bad 1 1 TooLong) else read_by (not_allowed_from 1 1 bytes) bytes

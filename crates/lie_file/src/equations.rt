@@ -5,6 +5,7 @@ ghost use Rattle.lie_scan.specs.Stops.{Reads};
 ghost use Rattle.lie_file.specs.FileLines.{ReadsFile, AreShort};
 ghost use Rattle.lie_file.specs.Files.{equation_at, end_of, line_of, equations_from};
 ghost use Rattle.lie_system.specs.Equations.{equation_read, HasJet};
+ghost use Rattle.lie_scan.specs.Limits.{greatest_text_length};
 
 use crate::lead::lead_of;
 use crate::lines::{FileFail, behind_word, failed, fault_at, is_word, next_line};
@@ -13,8 +14,7 @@ use lie_scan::fault::BadKind;
 use lie_scan::runs::{Class, after_blanks, split_run};
 use lie_scan::stop::LineFail;
 use lie_scan::sum::equation_of;
-use lie_scan::within_limits::sum_within_limits;
-use lie_system::Equation;
+use lie_system::{Equation, sum_within_limits};
 use std::alloc::Global;
 
 /// The most equations of a file.
@@ -24,7 +24,7 @@ const MAX_EQUATIONS: usize = 16;
 #[tactic(auto, unfolding(crate::specs::Files::equation_at))]
 fn equation_at(alloc: Global, space: Space, names: &[u8], text: &[u8]) -> Result<Equation, LineFail>
     requires names { length names.now ≡ space.p + space.q }
-    requires short { length text.now ≤ 65536 }
+    requires short { length text.now ≤ greatest_text_length }
     ensures value { Reads (equation_read space) result (equation_at space names.now text.now) }
     ensures jet { IfOk result (HasJet space) }
 {
@@ -36,7 +36,7 @@ fn equation_at(alloc: Global, space: Space, names: &[u8], text: &[u8]) -> Result
 
 // Whether only skipped lines are behind the end.
 fn end_of(content: &[u8], rest: &[&[u8]]) -> Result<(), FileFail>
-    requires { length rest.now ≤ 65537 }
+    requires { length rest.now ≤ greatest_text_length + 1 }
     ensures { ReadsFile (λ done. done) result (end_of content.now (map (λ l. l.now) rest.now)) }
 {
     let further = after_blanks(behind_word(content));
@@ -65,8 +65,8 @@ fn line_of(
     rest: &[&[u8]],
 ) -> Result<Option<Equation>, FileFail>
     requires names { length names.now ≡ space.p + space.q }
-    requires short { length content.now ≤ 65536 }
-    requires few { length rest.now ≤ 65537 }
+    requires short { length content.now ≤ greatest_text_length }
+    requires few { length rest.now ≤ greatest_text_length + 1 }
     ensures value { ReadsFile (option_map (equation_read space)) result
         (line_of space names.now count content.now (map (λ l. l.now) rest.now)) }
     ensures jet { IfOk result (λ o. IfSome o (HasJet space)) }
@@ -99,7 +99,7 @@ pub fn equations_of(
     lines: &[&[u8]],
 ) -> Result<Vec<Equation>, FileFail>
     requires names { length names.now ≡ space.p + space.q }
-    requires few { length lines.now ≤ 65537 }
+    requires few { length lines.now ≤ greatest_text_length + 1 }
     requires short { AreShort (map (λ l. l.now) lines.now) }
     ensures value { ReadsFile (λ es. map (equation_read space) es.items) result
         (equations_from space names.now [] (map (λ l. l.now) lines.now)) }

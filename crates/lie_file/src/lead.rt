@@ -2,6 +2,7 @@
 ghost use Rattle.std.specs.Prelude.{◌≡◌, ◌+◌, length, option_map, IfSome};
 ghost use Rattle.lie_jet.specs.Jets.{coordinate_of, IsJet};
 ghost use Rattle.lie_file.specs.Leads.{not_zeros, lead_of};
+ghost use Rattle.lie_system.specs.Limits.{greatest_jet_order};
 
 use lie_jet::{Jet, Space};
 use lie_scan::coordinate::{Variable, coordinate_at};
@@ -24,7 +25,7 @@ fn not_zeros(counts: &[u8]) -> bool
 pub fn lead_of(space: Space, names: &[u8], text: &[u8]) -> Option<Jet>
     requires { length names.now ≡ space.p + space.q }
     ensures value { option_map (coordinate_of space) result ≡ lead_of space names.now text.now }
-    ensures jet { IfSome result (IsJet space 12) }
+    ensures jet { IfSome result (IsJet space greatest_jet_order) }
 {
     match coordinate_at(space, names, after_blanks(text)) {
         Ok((Variable::Dependent(jet), rest)) => match after_blanks(rest) {

@@ -4,6 +4,7 @@ ghost use Rattle.std.specs.List.{slice_split};
 ghost use Rattle.lie_file.specs.FileLines.{is_word, behind_word, IsFailed};
 ghost use Rattle.lie_file.specs.Places.{fault_at, next_line};
 ghost use Rattle.lie_file.specs.declared.lines.FileFail.TheVariants.{NoMemory};
+ghost use Rattle.lie_scan.specs.Limits.{greatest_text_length};
 
 use lie_scan::fault::BadKind;
 use lie_scan::runs::{Class, after_blanks, split_run};
@@ -25,6 +26,14 @@ pub enum FileFail {
     /// The file ends too early.
     Ended,
     NoMemory,
+}
+
+impl From<lie_bytes::NoMemory> for FileFail {
+    ghost from_gives = { λ _ e. e ≡ NoMemory };
+
+    fn from(_: lie_bytes::NoMemory) -> FileFail {
+        FileFail::NoMemory
+    }
 }
 
 impl From<AllocError> for FileFail {
@@ -69,7 +78,7 @@ pub fn next_line<'a>(lines: &'a [&'a [u8]]) -> Option<(&'a [u8], &'a [&'a [u8]])
 
 /// A fault of the content of a line, at its last bytes, where `left` lines are behind it.
 pub fn fault_at(kind: BadKind, content: &[u8], left: usize, text: &[u8]) -> FileFail
-    requires { left ≤ 65537 }
+    requires { left ≤ greatest_text_length + 1 }
     ensures { result ≡ fault_at kind content.now left text.now }
 {
     FileFail::Fault(FileStop {
@@ -81,7 +90,7 @@ pub fn fault_at(kind: BadKind, content: &[u8], left: usize, text: &[u8]) -> File
 
 /// Why a file is not read whose line is not read.
 pub fn failed(fail: LineFail, content: &[u8], left: usize) -> FileFail
-    requires { left ≤ 65537 }
+    requires { left ≤ greatest_text_length + 1 }
     ensures { IsFailed fail content.now left result }
 {
     match fail {

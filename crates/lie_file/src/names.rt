@@ -4,6 +4,8 @@ ghost use Rattle.std.specs.List.{list_any};
 ghost use Rattle.lie_scan.specs.Stops.{Gives, Reads};
 ghost use Rattle.lie_file.specs.FileLines.{ReadsFile, is_header, after_header, name_of, name_turn, names_at, names_of, name_turn_of};
 ghost use Rattle.lie_scan.specs.Turns.{all_turns};
+ghost use Rattle.lie_scan.specs.Limits.{greatest_text_length};
+ghost use Rattle.lie_system.specs.Limits.{greatest_variable_count};
 
 use crate::lines::{FileFail, FileStop, behind_word, failed, fault_at, is_word, next_line};
 use lie_scan::fault::BadKind;
@@ -27,7 +29,7 @@ fn is_header(content: &[u8]) -> bool
 /// The lines behind the header.
 #[tactic(auto, unfolding(crate::specs::FileLines::after_header))]
 pub fn after_header<'a>(lines: &'a [&'a [u8]]) -> Result<&'a [&'a [u8]], FileFail>
-    requires { length lines.now ≤ 65537 }
+    requires { length lines.now ≤ greatest_text_length + 1 }
     ensures fewer { IfOk result (λ ls. length ls.now ≤ length lines.now) }
     ensures value { ReadsFile (λ ls. map (λ l. l.now) ls.now) result (after_header (map (λ l. l.now) lines.now)) }
 {
@@ -67,7 +69,7 @@ fn has(names: &[u8], letter: u8) -> bool
 // The name that a word gives, where the line gave `count` names before and all names so far are `given`.
 fn name_of(given: &[u8], count: usize, word: &[u8], text: &[u8]) -> Result<u8, Stop>
     ensures value { Gives (λ n. n) result (name_of given.now count word.now text.now) }
-    ensures few { OnOk result (count < 4) }
+    ensures few { OnOk result (count < greatest_variable_count) }
 {
     match word {
         [letter] => {
@@ -93,7 +95,7 @@ fn next_name<'a>(
 ) -> Result<Option<(u8, &'a [u8])>, LineFail>
     requires { before ≤ length given.now }
     ensures value { Reads (λ o. name_turn_of given.now text.now o) result (name_turn before given.now text.now) }
-    ensures few { IfOk result (λ o. OnSome o (length given.now < before + 4)) }
+    ensures few { IfOk result (λ o. OnSome o (length given.now < before + greatest_variable_count)) }
 {
     let text = after_blanks(text);
     if text.is_empty() {
@@ -111,9 +113,9 @@ fn further_names<'a>(
     text: &'a [u8],
 ) -> Result<(Vec<u8>, &'a [u8]), LineFail>
     requires longer { before ≤ length names.items }
-    requires few { length names.items ≤ before + 4 }
+    requires few { length names.items ≤ before + greatest_variable_count }
     ensures longer { IfOk result (λ x. before ≤ length x.0.items) }
-    ensures few { IfOk result (λ x. length x.0.items ≤ before + 4) }
+    ensures few { IfOk result (λ x. length x.0.items ≤ before + greatest_variable_count) }
     ensures value { Reads (λ x. (x.0.items, x.1.now)) result (all_turns (name_turn before) names.items text.now) }
 {
     let mut given = names;
@@ -134,7 +136,7 @@ fn further_names<'a>(
 fn names_at(alloc: Global, before: &[u8], text: &[u8]) -> Result<Vec<u8>, LineFail>
     ensures value { Reads (λ names. names.items) result (names_at before.now text.now) }
     ensures longer { IfOk result (λ names. length before.now < length names.items) }
-    ensures few { IfOk result (λ names. length names.items ≤ length before.now + 4) }
+    ensures few { IfOk result (λ names. length names.items ≤ length before.now + greatest_variable_count) }
 {
     let given = Vec::from_slice(alloc, before)?;
     let (names, rest) = further_names(before.len(), given, text)?;
@@ -152,9 +154,9 @@ pub fn names_of<'a>(
     before: &[u8],
     lines: &'a [&'a [u8]],
 ) -> Result<(Vec<u8>, &'a [&'a [u8]]), FileFail>
-    requires { length lines.now ≤ 65537 }
+    requires { length lines.now ≤ greatest_text_length + 1 }
     ensures longer { IfOk result (λ x. length before.now < length x.0.items) }
-    ensures few { IfOk result (λ x. length x.0.items ≤ length before.now + 4) }
+    ensures few { IfOk result (λ x. length x.0.items ≤ length before.now + greatest_variable_count) }
     ensures fewer { IfOk result (λ x. length x.1.now ≤ length lines.now) }
     ensures value { ReadsFile (λ x. (x.0.items, map (λ l. l.now) x.1.now)) result
         (names_of keyword.now before.now (map (λ l. l.now) lines.now)) }

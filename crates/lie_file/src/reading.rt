@@ -10,6 +10,7 @@ ghost use Rattle.lie_scan.specs.ReadFails.{Answers};
 ghost use Rattle.lie_scan.specs.Bad.{bad};
 ghost use Rattle.lie_file.specs.Places.{last_length, file_fault, not_allowed_from};
 ghost use Rattle.lie_system.specs.KeptSystems.{system_read};
+ghost use Rattle.lie_scan.specs.Limits.{greatest_text_length};
 
 use crate::file::system_of;
 use crate::lines::{FileFail, lines_of};
@@ -33,7 +34,7 @@ fn is_allowed(byte: u8, behind: &[u8]) -> bool
 
 // The line and column of the first byte that is not allowed.
 fn first_not_allowed(bytes: &[u8]) -> Option<(usize, usize)>
-    requires { length bytes.now ≤ 65536 }
+    requires { length bytes.now ≤ greatest_text_length }
     ensures { result ≡ not_allowed_from 1 1 bytes.now }
 {
     let mut line = 1;
@@ -68,7 +69,7 @@ fn last_length(lines: &[&[u8]]) -> usize
 
 // The fault of a file of these lines with its place.
 fn file_fault(lines: &[&[u8]], fail: FileFail) -> ReadFail
-    requires { length lines.now ≤ 65537 }
+    requires { length lines.now ≤ greatest_text_length + 1 }
     ensures { result ≡ file_fault (map (λ l. l.now) lines.now) fail }
 {
     match fail {
@@ -88,7 +89,7 @@ fn file_fault(lines: &[&[u8]], fail: FileFail) -> ReadFail
 
 // The system that lines spell, or their first fault.
 fn read_lines(alloc: Global, lines: &[&[u8]]) -> Result<System, ReadFail>
-    requires few { length lines.now ≤ 65537 }
+    requires few { length lines.now ≤ greatest_text_length + 1 }
     requires short { AreShort (map (λ l. l.now) lines.now) }
     ensures { Answers system_read result (read_lines (map (λ l. l.now) lines.now)) }
 {
@@ -100,7 +101,7 @@ fn read_lines(alloc: Global, lines: &[&[u8]]) -> Result<System, ReadFail>
 
 // The system that bytes of at most 65,536 spell, or their first fault.
 fn read_short(alloc: Global, bytes: &[u8]) -> Result<System, ReadFail>
-    requires { length bytes.now ≤ 65536 }
+    requires { length bytes.now ≤ greatest_text_length }
     ensures { Answers system_read result (read_by (not_allowed_from 1 1 bytes.now) bytes.now) }
 {
     match first_not_allowed(bytes) {
@@ -126,9 +127,9 @@ fn read_bytes(alloc: Global, bytes: &[u8]) -> Result<System, ReadFail>
 /// The system whose file the bytes are, or their first fault.
 pub fn read_system(alloc: Global, bytes: &[u8]) -> Result<System, ReadFail>
     // What is read is the file of the system, of at most 65,536 bytes.
-    ensures found { IfOk result (λ s. IsFile bytes.now (system_read s) × (length bytes.now ≤ 65536)) }
+    ensures found { IfOk result (λ s. IsFile bytes.now (system_read s) × (length bytes.now ≤ greatest_text_length)) }
     // A file of at most 65,536 bytes is read as its system, unless memory runs out.
-    ensures only { (s : SystemRead) → IsFile bytes.now s → length bytes.now ≤ 65536 → Answers system_read result (Ok s) }
+    ensures only { (s : SystemRead) → IsFile bytes.now s → length bytes.now ≤ greatest_text_length → Answers system_read result (Ok s) }
     // A fault that is told is the first fault of the bytes.
     ensures fault { IsFaultToldOf bytes.now result }
     // The first fault is told, unless memory runs out.

@@ -53,6 +53,10 @@ letters_from names i (count ∷ counts) = repeated count (name_at names i) ++ le
 abbrev pub subscript : List ℕ → List ℕ → List ℕ
 subscript names counts = if list_any (λ c. nat_lt 0 c) counts then 95 ∷ letters_from names 0 counts else []
 
+-- a line of a keyword and names, with a blank before each name
+abbrev pub names_line : List ℕ → List ℕ → List ℕ
+names_line keyword names = keyword ++ flat_map (λ n. 32 ∷ n ∷ []) names ++ codes "\n"
+
 -- a variable, or a derivative of a dependent one
 abbrev pub coordinate_text : Space → List ℕ → Coordinate → List ℕ
 coordinate_text S names (independent i) = name_at names i

@@ -3,4 +3,5 @@
 
 pub mod name_texts;
 pub mod printed_term;
+pub mod printer;
 pub mod printing;

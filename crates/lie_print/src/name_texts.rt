@@ -1,11 +1,12 @@
 // Names of variables, coordinates and derivatives of unknowns as text.
 ghost use Rattle.std.specs.Prelude.{◌≡◌, ◌++◌, ◌∷◌, [], OnOk, take, decimal, nat_lt};
-ghost use Rattle.std.specs.List.{list_any};
+ghost use Rattle.std.specs.List.{list_any, flat_map};
 ghost use Rattle.lie_jet.specs.Derivatives.{derivative_of};
 ghost use Rattle.lie_jet.specs.Jets.{coordinate_of, IsJet};
-ghost use Rattle.lie_print.specs.Printing.{name_at, repeated, letters_from, subscript, coordinate_text, variable_text, derivative_text};
+ghost use Rattle.lie_print.specs.Printing.{name_at, names_line, repeated, letters_from, subscript, coordinate_text, variable_text, derivative_text};
 
-use lie_jet::{Der, Jet, Space, jet_of};
+use crate::printer::Printer;
+use lie_jet::{Der, Jet, jet_of};
 use std::alloc::{AllocError, Global};
 
 /// Appends a text.
@@ -35,11 +36,23 @@ fn name_at(names: &[u8], i: usize) -> &[u8]
     }
 }
 
-/// Appends the i-th name, and nothing where there is none.
-pub fn push_name(text: &mut Vec<u8>, names: &[u8], i: usize) -> Result<(), AllocError>
-    ensures { OnOk result (text.new.items ≡ text.old.items ++ name_at names.now i) }
+// Appends names, each behind a blank.
+fn push_names(text: &mut Vec<u8>, names: &[u8]) -> Result<(), AllocError>
+    ensures { OnOk result (text.new.items ≡ text.old.items ++ flat_map (λ n. 32 ∷ n ∷ []) names.now) }
 {
-    push_text(text, name_at(names, i))
+    for name in names {
+        push_text(text, &[b' ', *name])?;
+    }
+    Ok(())
+}
+
+/// Appends a line of a keyword and names.
+pub fn push_names_line(text: &mut Vec<u8>, keyword: &[u8], names: &[u8]) -> Result<(), AllocError>
+    ensures { OnOk result (text.new.items ≡ text.old.items ++ names_line keyword.now names.now) }
+{
+    push_text(text, keyword)?;
+    push_names(text, names)?;
+    push_text(text, b"\n")
 }
 
 // Appends a text some times.
@@ -80,44 +93,45 @@ fn push_subscript(text: &mut Vec<u8>, names: &[u8], counts: &[u8]) -> Result<(),
     Ok(())
 }
 
-/// Appends a jet.
-pub fn push_jet(text: &mut Vec<u8>, space: Space, names: &[u8], jet: &Jet) -> Result<(), AllocError>
-    requires { IsJet space 12 jet.now }
-    ensures { OnOk result (text.new.items ≡ text.old.items ++ coordinate_text space names.now (coordinate_of space jet.now)) }
-{
-    push_name(text, names, usize::from(space.p) + usize::from(jet.dep))?;
-    push_subscript(text, names, &jet.counts[..usize::from(space.p)])
-}
-
-/// Appends the coordinate with a number.
-pub fn push_variable(
-    text: &mut Vec<u8>,
-    space: Space,
-    names: &[u8],
-    variable: u32,
-) -> Result<(), AllocError>
-    ensures { OnOk result (text.new.items ≡ text.old.items ++ variable_text space names.now variable) }
-{
-    if variable < u32::from(space.p) {
-        return push_name(text, names, variable as usize);
+impl Printer<'_> {
+    /// Appends the i-th name, and nothing where there is none.
+    pub fn push_name(&self, text: &mut Vec<u8>, i: usize) -> Result<(), AllocError>
+        ensures { OnOk result (text.new.items ≡ text.old.items ++ name_at self.now.names.now i) }
+    {
+        push_text(text, name_at(self.names, i))
     }
-    match jet_of(space, variable) {
-        Some(jet) => push_jet(text, space, names, &jet),
-        None => Ok(()),
-    }
-}
 
-/// Appends a derivative of an unknown: `f`, its number and its letters.
-pub fn push_derivative(
-    text: &mut Vec<u8>,
-    alloc: Global,
-    names: &[u8],
-    derivative: &Der,
-) -> Result<(), AllocError>
-    ensures { OnOk result (text.new.items ≡ text.old.items ++ derivative_text names.now (derivative_of derivative.now)) }
-{
-    push_text(text, b"f")?;
-    push_number(text, alloc, u128::from(derivative.unknown))?;
-    push_subscript(text, names, &derivative.counts)?;
-    Ok(())
+    /// Appends a jet.
+    pub fn push_jet(&self, text: &mut Vec<u8>, jet: &Jet) -> Result<(), AllocError>
+        requires { IsJet self.now.space 12 jet.now }
+        ensures { OnOk result (text.new.items
+            ≡ text.old.items ++ coordinate_text self.now.space self.now.names.now (coordinate_of self.now.space jet.now)) }
+    {
+        let p = usize::from(self.space.p);
+        self.push_name(text, p + usize::from(jet.dep))?;
+        push_subscript(text, self.names, &jet.counts[..p])
+    }
+
+    /// Appends the coordinate with a number.
+    pub fn push_variable(&self, text: &mut Vec<u8>, variable: u32) -> Result<(), AllocError>
+        ensures { OnOk result (text.new.items ≡ text.old.items ++ variable_text self.now.space self.now.names.now variable) }
+    {
+        if variable < u32::from(self.space.p) {
+            return self.push_name(text, variable as usize);
+        }
+        match jet_of(self.space, variable) {
+            Some(jet) => self.push_jet(text, &jet),
+            None => Ok(()),
+        }
+    }
+
+    /// Appends a derivative of an unknown: `f`, its number and its letters.
+    pub fn push_derivative(&self, text: &mut Vec<u8>, derivative: &Der) -> Result<(), AllocError>
+        ensures { OnOk result (text.new.items ≡ text.old.items ++ derivative_text self.now.names.now (derivative_of derivative.now)) }
+    {
+        push_text(text, b"f")?;
+        push_number(text, self.alloc, u128::from(derivative.unknown))?;
+        push_subscript(text, self.names, &derivative.counts)?;
+        Ok(())
+    }
 }

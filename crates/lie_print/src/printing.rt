@@ -6,29 +6,12 @@ ghost use Rattle.lie_print.specs.PrintedTerms.{printed};
 ghost use Rattle.lie_print.specs.Printing.{power_text, star, behind, last_factor, is_shown, is_further};
 ghost use Rattle.lie_print.specs.Printing.{term_text, sign_text, signed_text, sum_text};
 
-use crate::name_texts::{push_derivative, push_number, push_text, push_variable};
+use crate::name_texts::{push_number, push_text};
 use crate::printed_term::Term;
-use lie_jet::{Der, Space};
+use crate::printer::Printer;
+use lie_jet::Der;
 use lie_ring::Ring;
 use std::alloc::{AllocError, Global};
-
-// Appends a power: the variable, and `^` and the exponent where that is not 1.
-fn push_power(
-    text: &mut Vec<u8>,
-    alloc: Global,
-    space: Space,
-    names: &[u8],
-    power: (u32, u32),
-) -> Result<(), AllocError>
-    ensures { OnOk result (text.new.items ≡ text.old.items ++ power_text space names.now power) }
-{
-    push_variable(text, space, names, power.0)?;
-    if power.1 != 1 {
-        push_text(text, b"^")?;
-        push_number(text, alloc, u128::from(power.1))?;
-    }
-    Ok(())
-}
 
 // Appends a star behind what stands before, if anything does.
 fn push_star(text: &mut Vec<u8>, further: bool) -> Result<(), AllocError>
@@ -38,44 +21,6 @@ fn push_star(text: &mut Vec<u8>, further: bool) -> Result<(), AllocError>
         push_text(text, b"*")?;
     }
     Ok(())
-}
-
-// Appends powers, each behind a star.
-fn push_further_powers(
-    text: &mut Vec<u8>,
-    alloc: Global,
-    space: Space,
-    names: &[u8],
-    powers: &[(u32, u32)],
-) -> Result<(), AllocError>
-    ensures { OnOk result (text.new.items ≡ text.old.items ++ flat_map (λ g. 42 ∷ g) (map (power_text space names.now) powers.now)) }
-{
-    for power in powers {
-        push_text(text, b"*")?;
-        push_power(text, alloc, space, names, *power)?;
-    }
-    Ok(())
-}
-
-// Appends powers behind other factors, or as the first ones.
-fn push_powers(
-    text: &mut Vec<u8>,
-    alloc: Global,
-    space: Space,
-    names: &[u8],
-    further: bool,
-    powers: &[(u32, u32)],
-) -> Result<(), AllocError>
-    ensures { OnOk result (text.new.items ≡ text.old.items ++ behind further (map (power_text space names.now) powers.now)) }
-{
-    match powers {
-        [] => Ok(()),
-        [first, rest @ ..] => {
-            push_star(text, further)?;
-            push_power(text, alloc, space, names, *first)?;
-            push_further_powers(text, alloc, space, names, rest)
-        }
-    }
 }
 
 // Whether the number of a term is shown: not where it is 1 before other factors.
@@ -108,51 +53,6 @@ fn push_shown(text: &mut Vec<u8>, alloc: Global, size: u128, shown: bool) -> Res
     Ok(())
 }
 
-// Appends a derivative of an unknown, where there is one, behind other factors or as the first.
-fn push_last(
-    text: &mut Vec<u8>,
-    alloc: Global,
-    names: &[u8],
-    further: bool,
-    derivative: &Option<Der>,
-) -> Result<(), AllocError>
-    ensures { OnOk result (text.new.items
-        ≡ text.old.items ++ behind further (last_factor names.now (option_map derivative_of derivative.now))) }
-{
-    match derivative {
-        Some(derivative) => {
-            push_star(text, further)?;
-            push_derivative(text, alloc, names, derivative)
-        }
-        None => Ok(()),
-    }
-}
-
-// Appends a term without its sign: the number, unless it is 1 before other factors, the powers and the derivative.
-fn push_term(
-    text: &mut Vec<u8>,
-    alloc: Global,
-    space: Space,
-    names: &[u8],
-    term: &Term,
-) -> Result<(), AllocError>
-    ensures { OnOk result (text.new.items ≡ text.old.items ++ term_text space names.now (printed term.now)) }
-{
-    let size = term.number.size();
-    let powers = term.monomial.pairs();
-    let shown = is_shown(size, powers, &term.derivative);
-    push_shown(text, alloc, size, shown)?;
-    push_powers(text, alloc, space, names, shown, powers)?;
-    push_last(
-        text,
-        alloc,
-        names,
-        is_further(shown, powers),
-        &term.derivative,
-    )?;
-    Ok(())
-}
-
 // Appends the sign before a term: a bare minus before the first, and one with blanks before a further term.
 fn push_sign(text: &mut Vec<u8>, further: bool, negative: bool) -> Result<(), AllocError>
     ensures { OnOk result (text.new.items ≡ text.old.items ++ sign_text further negative) }
@@ -165,52 +65,117 @@ fn push_sign(text: &mut Vec<u8>, further: bool, negative: bool) -> Result<(), Al
     }
 }
 
-// Appends a term with its sign.
-fn push_signed(
-    text: &mut Vec<u8>,
-    alloc: Global,
-    space: Space,
-    names: &[u8],
-    further: bool,
-    term: &Term,
-) -> Result<(), AllocError>
-    ensures { OnOk result (text.new.items ≡ text.old.items ++ signed_text space names.now further (printed term.now)) }
-{
-    push_sign(text, further, term.number.get() < 0)?;
-    push_term(text, alloc, space, names, term)
-}
-
-// Appends further terms.
-fn push_further(
-    text: &mut Vec<u8>,
-    alloc: Global,
-    space: Space,
-    names: &[u8],
-    terms: &[Term],
-) -> Result<(), AllocError>
-    ensures { OnOk result (text.new.items ≡ text.old.items ++ flat_map (signed_text space names.now true) (map printed terms.now)) }
-{
-    for term in terms {
-        push_signed(text, alloc, space, names, true, term)?;
+impl Printer<'_> {
+    // Appends a power: the variable, and `^` and the exponent where that is not 1.
+    fn push_power(&self, text: &mut Vec<u8>, power: (u32, u32)) -> Result<(), AllocError>
+        ensures { OnOk result (text.new.items ≡ text.old.items ++ power_text self.now.space self.now.names.now power) }
+    {
+        self.push_variable(text, power.0)?;
+        if power.1 != 1 {
+            push_text(text, b"^")?;
+            push_number(text, self.alloc, u128::from(power.1))?;
+        }
+        Ok(())
     }
-    Ok(())
-}
 
-/// Appends a sum of terms; that of none is 0.
-pub fn push_sum(
-    text: &mut Vec<u8>,
-    alloc: Global,
-    space: Space,
-    names: &[u8],
-    terms: &[Term],
-) -> Result<(), AllocError>
-    ensures { OnOk result (text.new.items ≡ text.old.items ++ sum_text space names.now (map printed terms.now)) }
-{
-    match terms {
-        [] => push_text(text, b"0"),
-        [first, rest @ ..] => {
-            push_signed(text, alloc, space, names, false, first)?;
-            push_further(text, alloc, space, names, rest)
+    // Appends powers, each behind a star.
+    fn push_further_powers(
+        &self,
+        text: &mut Vec<u8>,
+        powers: &[(u32, u32)],
+    ) -> Result<(), AllocError>
+        ensures { OnOk result (text.new.items
+            ≡ text.old.items ++ flat_map (λ g. 42 ∷ g) (map (power_text self.now.space self.now.names.now) powers.now)) }
+    {
+        for power in powers {
+            push_text(text, b"*")?;
+            self.push_power(text, *power)?;
+        }
+        Ok(())
+    }
+
+    // Appends powers behind other factors, or as the first ones.
+    fn push_powers(
+        &self,
+        text: &mut Vec<u8>,
+        further: bool,
+        powers: &[(u32, u32)],
+    ) -> Result<(), AllocError>
+        ensures { OnOk result (text.new.items
+            ≡ text.old.items ++ behind further (map (power_text self.now.space self.now.names.now) powers.now)) }
+    {
+        match powers {
+            [] => Ok(()),
+            [first, rest @ ..] => {
+                push_star(text, further)?;
+                self.push_power(text, *first)?;
+                self.push_further_powers(text, rest)
+            }
+        }
+    }
+
+    // Appends a derivative of an unknown, where there is one, behind other factors or as the first.
+    fn push_last(
+        &self,
+        text: &mut Vec<u8>,
+        further: bool,
+        derivative: &Option<Der>,
+    ) -> Result<(), AllocError>
+        ensures { OnOk result (text.new.items
+            ≡ text.old.items ++ behind further (last_factor self.now.names.now (option_map derivative_of derivative.now))) }
+    {
+        match derivative {
+            Some(derivative) => {
+                push_star(text, further)?;
+                self.push_derivative(text, derivative)
+            }
+            None => Ok(()),
+        }
+    }
+
+    // Appends a term without its sign: the number, unless it is 1 before other factors, the powers and the derivative.
+    fn push_term(&self, text: &mut Vec<u8>, term: &Term) -> Result<(), AllocError>
+        ensures { OnOk result (text.new.items ≡ text.old.items ++ term_text self.now.space self.now.names.now (printed term.now)) }
+    {
+        let size = term.number.size();
+        let powers = term.monomial.pairs();
+        let shown = is_shown(size, powers, &term.derivative);
+        push_shown(text, self.alloc, size, shown)?;
+        self.push_powers(text, shown, powers)?;
+        self.push_last(text, is_further(shown, powers), &term.derivative)?;
+        Ok(())
+    }
+
+    // Appends a term with its sign.
+    fn push_signed(&self, text: &mut Vec<u8>, further: bool, term: &Term) -> Result<(), AllocError>
+        ensures { OnOk result (text.new.items
+            ≡ text.old.items ++ signed_text self.now.space self.now.names.now further (printed term.now)) }
+    {
+        push_sign(text, further, term.number.get() < 0)?;
+        self.push_term(text, term)
+    }
+
+    // Appends further terms.
+    fn push_further(&self, text: &mut Vec<u8>, terms: &[Term]) -> Result<(), AllocError>
+        ensures { OnOk result (text.new.items
+            ≡ text.old.items ++ flat_map (signed_text self.now.space self.now.names.now true) (map printed terms.now)) }
+    {
+        for term in terms {
+            self.push_signed(text, true, term)?;
+        }
+        Ok(())
+    }
+
+    /// Appends a sum of terms; that of none is 0.
+    pub fn push_sum(&self, text: &mut Vec<u8>, terms: &[Term]) -> Result<(), AllocError>
+        ensures { OnOk result (text.new.items ≡ text.old.items ++ sum_text self.now.space self.now.names.now (map printed terms.now)) }
+    {
+        match terms {
+            [] => push_text(text, b"0"),
+            [first, rest @ ..] => {
+                self.push_signed(text, false, first)?;
+                self.push_further(text, rest)
+            }
         }
     }
 }

@@ -4,12 +4,8 @@ use Rattle.std.specs.List.{flat_map}
 use Rattle.lie_math.specs.LinearForm.{LinearForm}
 use Rattle.lie_math.specs.LinearSystem.{Unknown, LinearSystem}
 use Rattle.lie_geometry.specs.Coordinates.{Space}
-use Rattle.lie_print.specs.Printing.{name_at, sum_text}
+use Rattle.lie_print.specs.Printing.{name_at, names_line, sum_text}
 use Rattle.lie_report.specs.Terms.{form_terms}
-
--- a keyword and names, with a blank before each name
-abbrev pub names_line : List ℕ → List ℕ → List ℕ
-names_line keyword names = keyword ++ flat_map (λ n. 32 ∷ n ∷ []) names ++ codes "\n"
 
 -- texts with commas between them
 abbrev pub listed : List (List ℕ) → List ℕ

@@ -6,7 +6,7 @@ use lie_bytes::NoMemory;
 use lie_jet::{JetPoly, Space};
 use lie_print::name_texts::{push_number, push_text};
 use lie_print::printed_term::polynomial_terms;
-use lie_print::printing::push_sum;
+use lie_print::printer::Printer;
 use std::alloc::Global;
 
 /// The line of a check that finds every condition met. An error where there is no memory.
@@ -29,12 +29,17 @@ pub fn no_line(
 ) -> Result<Vec<u8>, NoMemory>
     ensures { IfOk result (λ text. text.items ≡ no_line space names.now equation remainder.now) }
 {
+    let printer = Printer {
+        alloc,
+        space,
+        names,
+    };
     let terms = polynomial_terms(alloc, remainder)?;
     let mut text = Vec::new(alloc);
     push_text(&mut text, b"no equation ")?;
     push_number(&mut text, alloc, u128::from(equation))?;
     push_text(&mut text, b" remainder ")?;
-    push_sum(&mut text, alloc, space, names, &terms)?;
+    printer.push_sum(&mut text, &terms)?;
     push_text(&mut text, b"\n")?;
     Ok(text)
 }

@@ -3,6 +3,7 @@ use crate::report_text::report_of;
 use crate::{no_line, yes_line};
 use lie_jet::{Der, JetPoly, Space};
 use lie_lin::{LinEq, Unknown, of_triples};
+use lie_print::printer::Printer;
 use lie_ring::{Mono, Polynomial, Whole};
 use std::alloc::Global;
 use std::test::Fail;
@@ -80,11 +81,14 @@ fn report_has_its_lines(rt: HostRuntime) -> Result<(), Fail> {
     general.push(y).map_err(|_| "memory")?;
     let equations = line_equations(alloc).ok_or("equations")?;
     let space = Space { p: 1, q: 1 };
-    let text = report_of(alloc, space, b"xy", &unknowns, &general, &equations).map_err(
-        |_| "memory",
-    )?;
+    let printer = Printer {
+        alloc,
+        space,
+        names: b"xy",
+    };
+    let text = report_of(&printer, &unknowns, &general, &equations).map_err(|_| "memory")?;
     assert_eq!(rt; text.as_slice(), LINE_REPORT);
-    let none = report_of(alloc, space, b"xy", &[], &[], &[]).map_err(|_| "memory")?;
+    let none = report_of(&printer, &[], &[], &[]).map_err(|_| "memory")?;
     let want: &[u8] = b"lie determining 1\nvars x\ndeps y\nremaining 0\nend\n";
     assert_eq!(rt; none.as_slice(), want);
     Ok(())

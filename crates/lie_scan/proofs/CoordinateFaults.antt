@@ -9,7 +9,7 @@ use Rattle.lie_scan.specs.declared.runs.Class.TheVariants.{Letter}
 use Rattle.lie_scan.specs.declared.stop.Stop.{Stop}
 use Rattle.lie_scan.specs.Runs.{run, behind, is_in}
 use Rattle.lie_scan.specs.Stops.{stop, ◌>>=◌}
-use Rattle.lie_scan.specs.Names.{place_of, counts_of}
+use Rattle.lie_scan.specs.Names.{place_of, letter_counts}
 use Rattle.lie_scan.specs.Tokens.{place_of_word, are_names, derivative_by, derivative, plain_by, plain, coordinate_by, coordinate_at}
 use Rattle.lie_scan.specs.TokenGrammar.{BeginsOutside, IsNot}
 use Rattle.lie_scan.specs.LineFaults.{IsLetters, IsName, IsWordRaised, IsCoordinateFault, no_coordinate, no_letter, no_name, not_dependent, not_independent, high_order}
@@ -94,7 +94,7 @@ module _ (S : Space) (names text : List ℕ) where
       go : (o : Option ℕ) → place_of_word (drop S.p names) word ≡ o → derivative_by S o (take S.p names) by text ≡ Err s → IsCoordinateFault S names text s
       go None at e = subst (IsCoordinateFault S names text) (err_is (stop UnknownName text) s e) (not_dependent word by raised (unnamed-is (drop S.p names) word at))
       go (Some a) at e =
-          let made : Coordinate = jet a (take S.p (counts_of (take S.p names) by)) in
+          let made : Coordinate = jet a (take S.p (letter_counts (take S.p names) by)) in
           other_fails (are_names (take S.p names) by) (stop UnknownName text) s (if nat_lt 6 (length by) then Err (stop Order text) else Ok made) e
           (λ unknown same. subst (IsCoordinateFault S names text) same (not_independent word by raised (not_names-is (take S.p names) by unknown)))
           (λ known more. test_fails (nat_lt 6 (length by)) (stop Order text) s (Ok made) more

@@ -8,7 +8,7 @@ use Rattle.lie_scan.specs.declared.fault.BadKind.TheVariants.{Syntax, UnknownNam
 use Rattle.lie_scan.specs.declared.runs.Class.TheVariants.{Blank, Letter}
 use Rattle.lie_scan.specs.Runs.{run, behind, after_blanks, is_in}
 use Rattle.lie_scan.specs.Stops.{stop, ◌>>=◌}
-use Rattle.lie_scan.specs.Names.{place_of, counts_of, variable_at}
+use Rattle.lie_scan.specs.Names.{place_of, letter_counts, variable_at}
 use Rattle.lie_scan.specs.Tokens.{place_of_word, is_name, are_names, derivative_by, derivative, plain_by, plain, coordinate_by, coordinate_at}
 use Rattle.lie_scan.specs.TokenGrammar.{AreIn, IsVariableName, IsDerivativeName, IsCoordinateAt, BeginsOutside, IsNot}
 use Rattle.lie_scan.proofs.Blanks.{bind_then, guard_then, guard_else, ok_is, run_is, run_in, run_front, behind_front, behind_none, behind_outside, blanks_to, after_outside, letter_range, no_blank_above}
@@ -55,10 +55,10 @@ is-plain S names word text v h =
 
 -- ---- derivatives
 derivative_then : (S : Space) (o : Option ℕ) (names by text : List ℕ) (v : Coordinate) → derivative_by S o names by text ≡ Ok v
-    → (a : ℕ) × (o ≡ Some a) × (are_names names by ≡ true) × (length by ≤ 6) × (jet a (take S.p (counts_of names by)) ≡ v)
+    → (a : ℕ) × (o ≡ Some a) × (are_names names by ≡ true) × (length by ≤ 6) × (jet a (take S.p (letter_counts names by)) ≡ v)
 derivative_then S None names by text v h = cc
 derivative_then S (Some a) names by text v h =
-    let made : Coordinate = jet a (take S.p (counts_of names by)) in
+    let made : Coordinate = jet a (take S.p (letter_counts names by)) in
     let named = guard_else (are_names names by) (stop UnknownName text) (if nat_lt 6 (length by) then Err (stop Order text) else Ok made) v h in
     let low = guard_then (nat_lt 6 (length by)) (stop Order text) (Ok made) v named.1 in
     (a, refl, named.0, grind (arith, nat_tests, low.0), ok_is made v low.1)

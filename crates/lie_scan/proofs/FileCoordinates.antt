@@ -9,7 +9,7 @@ use Rattle.lie_geometry.specs.Coordinates.{Space, Coordinate, independent, jet, 
 use Rattle.lie_geometry.proofs.Numbers.{coordinate-number}
 use Rattle.lie_geometry.proofs.NumberOrder.{order_below}
 use Rattle.lie_jet.specs.Jets.{IsSmall}
-use Rattle.lie_scan.specs.Names.{place_from, place_of, counts_from, counts_of, one_more, variable_at}
+use Rattle.lie_scan.specs.Names.{place_from, place_of, counts_from, letter_counts, one_more, variable_at}
 use Rattle.lie_scan.specs.Variables.{AreCounts}
 use Rattle.lie_scan.specs.TokenGrammar.{IsVariableName, IsDerivativeName, IsCoordinateAt, IsNot}
 use Rattle.lie_scan.proofs.CountSteps.{counts_none, counts_step}
@@ -77,7 +77,7 @@ module _ (S : Space) (small : IsSmall S) (names : List ℕ) (many : length names
       let rest = length-drop S.p names in
       let low = counts.low in
       let short = h.few in
-      let J : List ℕ = counts_of (take S.p names) h.by in
+      let J : List ℕ = letter_counts (take S.p names) h.by in
       let e : take (length (take S.p names)) J ≡ take S.p J = ap (λ n. take n J) first_names in
       let o = ap order e in
       subst (IsGood S) (sym h.means) (record {

@@ -1,5 +1,5 @@
 -- What reading turn by turn gives has at most the size that it begins with.
-use Rattle.std.specs.Prelude.{ℕ, zero, suc, ◌+◌, ◌≡◌, ◌≤◌, Bool, true, false, List, [], ◌∷◌, length, Ok, Err, if◌then◌else◌, refl}
+use Rattle.std.specs.Prelude.{ℕ, zero, suc, ◌≡◌, ◌≤◌, Bool, true, false, List, length, Ok, Err, if◌then◌else◌, refl}
 use Rattle.std.specs.declared.result.Result.{Result}
 use Rattle.std.proofs.Common.{subst, arith}
 use Rattle.lie_scan.specs.declared.stop.Stop.{Stop}

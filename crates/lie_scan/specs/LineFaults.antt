@@ -57,7 +57,7 @@ pub data IsCoordinateFault (S : Space) (names text : List ℕ) : Stop → Type 0
   -- a letter behind `_` is no name of an independent variable
   not_independent : (word by : List ℕ) → IsWordRaised text word by → (AreIndependent S names by → ⊥)
       → IsCoordinateFault S names text (stop UnknownName text)
-  -- more than 6 letters are behind `_`
+  -- more letters are behind `_` than an order may have
   high_order : (word by : List ℕ) → IsWordRaised text word by → IsName (drop S.p names) word → AreIndependent S names by → 7 ≤ length by
       → IsCoordinateFault S names text (stop Order text)
 
@@ -67,7 +67,7 @@ pub data IsPowerFault (S : Space) (names text : List ℕ) : Stop → Type 0 wher
   -- behind `^` there is no digit
   no_exponent : (c : Coordinate) (behind front : List ℕ) → IsCoordinateAt S names text c behind → IsSign 94 behind front
       → BeginsOutside Digit (after_blanks front) → IsPowerFault S names text (stop Syntax (after_blanks front))
-  -- the exponent is not 1 to 32
+  -- the exponent is 0 or past the greatest
   wrong_exponent : (c : Coordinate) (behind front : List ℕ) (e : ℕ) (rest : List ℕ) → IsCoordinateAt S names text c behind
       → IsSign 94 behind front → IsNumber front e rest → ((e ≡ 0) ⊎ (33 ≤ e))
       → IsPowerFault S names text (stop Exponent (after_blanks text))
@@ -92,7 +92,7 @@ pub data IsTermFault (S : Space) (names text : List ℕ) : Stop → Type 0 where
   in_first : (s : Stop) → BeginsOutside Digit (after_blanks text) → IsPowerFault S names text s → IsTermFault S names text s
   in_factor : (m : Monomial) (front : List ℕ) (s : Stop) → IsFactorNext S names text m front → IsPowerFault S names front s
       → IsTermFault S names text s
-  -- with this power the exponents of its coordinate sum to more than 32
+  -- with this power the exponents of its coordinate sum to more than the greatest
   high_exponent : (m : Monomial) (front : List ℕ) (p : ℕ × ℕ) (rest : List ℕ) → IsFactorNext S names text m front
       → IsPower S names front p rest → 33 ≤ exponent (m · power_of p.0 p.1) p.0
       → IsTermFault S names text (stop Exponent (after_blanks front))

@@ -21,8 +21,8 @@ abbrev pub counts_from : List ℕ → List ℕ → List ℕ → List ℕ
 counts_from names J [] = J
 counts_from names J (c ∷ cs) = counts_from names (one_more J (place_of names c)) cs
 
-abbrev pub counts_of : List ℕ → List ℕ → List ℕ
-counts_of names word = counts_from names (0 ∷ 0 ∷ 0 ∷ 0 ∷ []) word
+abbrev pub letter_counts : List ℕ → List ℕ → List ℕ
+letter_counts names word = counts_from names (0 ∷ 0 ∷ 0 ∷ 0 ∷ []) word
 
 -- the variable at a place among the names
 abbrev pub variable_at : Space → ℕ → Coordinate

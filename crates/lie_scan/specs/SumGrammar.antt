@@ -24,7 +24,7 @@ IsFirstFactor S names text n ps rest =
     (IsNumber text n rest × (n < 2 ^ 127) × (ps ≡ []))
     ⊎ ((n ≡ 1) × ((p : ℕ × ℕ) × (ps ≡ p ∷ []) × IsPower S names text p rest))
 
--- a term, with a number n and a monomial m, whose exponents are at most 32
+-- a term, with a number n and a monomial m, whose exponents are not past the greatest
 pub record IsTerm (S : Space) (names text : List ℕ) (n : ℕ) (m : Monomial) (rest : List ℕ) : Type 0 where
   pub first : List (ℕ × ℕ)
   pub behind : List ℕ

@@ -33,11 +33,13 @@ use Rattle.lie_scan.specs.Tokens.{literal_at, power_at}
 use Rattle.lie_scan.specs.Turns.{Turn, goes_on, ends, all_turns}
 use Rattle.lie_ring.specs.Ratios.{signed}
 use Rattle.lie_scan.specs.Meaning.{size_of, turned_sign}
+use Rattle.lie_scan.specs.Limits.{greatest_written_exponent}
 
 -- ---- terms
--- the product of a monomial and a power, whose exponents are at most 32
+-- the product of a monomial and a power, whose exponents are not past the greatest
 abbrev pub raised : Monomial → ℕ × ℕ → List ℕ → Result Monomial Stop
-raised m p text = if nat_lt 32 (exponent (m · power_of p.0 p.1) p.0) then Err (stop Exponent text) else Ok (m · power_of p.0 p.1)
+raised m p text =
+    if nat_lt greatest_written_exponent (exponent (m · power_of p.0 p.1) p.0) then Err (stop Exponent text) else Ok (m · power_of p.0 p.1)
 
 -- the product of a monomial and of the power in front, and what is behind
 unfoldable pub factor_at : Space → List ℕ → Monomial → List ℕ → Result (Monomial × List ℕ) Stop

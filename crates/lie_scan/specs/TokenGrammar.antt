@@ -7,7 +7,9 @@ use Rattle.lie_geometry.specs.Coordinates.{Space, Coordinate, jet, number}
 use Rattle.lie_scan.specs.declared.runs.Class.{Class}
 use Rattle.lie_scan.specs.declared.runs.Class.TheVariants.{Blank, Letter, Digit}
 use Rattle.lie_scan.specs.Runs.{is_in, after_blanks}
-use Rattle.lie_scan.specs.Names.{place_of, counts_of, variable_at}
+use Rattle.lie_scan.specs.Names.{place_of, letter_counts, variable_at}
+use Rattle.lie_scan.specs.Limits.{greatest_written_exponent}
+use Rattle.lie_system.specs.Limits.{greatest_written_order}
 
 -- ---- bytes
 abbrev pub AreIn : Class → List ℕ → Type 0
@@ -56,7 +58,7 @@ pub record IsVariableName (S : Space) (names word : List ℕ) (c : Coordinate) :
   pub named : place_of names letter ≡ Some place
   pub means : c ≡ variable_at S place
 
--- the name of a dependent variable, `_`, and 1 to 6 names of independent variables in any order
+-- the name of a dependent variable, `_`, and names of independent variables in any order, at least one and as many as an order may have
 pub record IsDerivativeName (S : Space) (names word : List ℕ) (c : Coordinate) : Type 0 where
   pub letter : ℕ
   pub place : ℕ
@@ -67,8 +69,8 @@ pub record IsDerivativeName (S : Space) (names word : List ℕ) (c : Coordinate)
   pub are_letters : AreIn Letter by
   pub independent : AllByRecursion (λ x. IsSome (place_of (take S.p names) x)) by
   pub some : 1 ≤ length by
-  pub few : length by ≤ 6
-  pub means : c ≡ jet place (take S.p (counts_of (take S.p names) by))
+  pub few : length by ≤ greatest_written_order
+  pub means : c ≡ jet place (take S.p (letter_counts (take S.p names) by))
 
 -- a coordinate is one token: no letter is behind it, and no `_` behind a name alone
 pub record IsCoordinateAt (S : Space) (names text : List ℕ) (c : Coordinate) (rest : List ℕ) : Type 0 where
@@ -78,10 +80,10 @@ pub record IsCoordinateAt (S : Space) (names text : List ℕ) (c : Coordinate) (
   pub name : (IsVariableName S names word c × IsNot 95 rest) ⊎ IsDerivativeName S names word c
 
 -- ---- powers
--- behind a coordinate: `^` and a number of 1 to 32, or no `^` for the exponent 1
+-- behind a coordinate: `^` and a number from 1 to the greatest exponent, or no `^` for the exponent 1
 abbrev pub IsExponentAt : List ℕ → ℕ → List ℕ → Type 0
 IsExponentAt text e rest = ((e ≡ 1) × (text ≡ rest) × IsNot 94 (after_blanks rest)) ⊎
-    ((digits : List ℕ) × IsSign 94 text digits × IsNumber digits e rest × (1 ≤ e) × (e ≤ 32))
+    ((digits : List ℕ) × IsSign 94 text digits × IsNumber digits e rest × (1 ≤ e) × (e ≤ greatest_written_exponent))
 
 -- a power: the number of its coordinate, and its exponent
 pub record IsPower (S : Space) (names text : List ℕ) (p : ℕ × ℕ) (rest : List ℕ) : Type 0 where

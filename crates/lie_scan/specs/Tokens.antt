@@ -32,7 +32,9 @@ use Rattle.lie_scan.specs.declared.runs.Class.TheVariants.{Letter, Digit}
 use Rattle.lie_scan.specs.declared.stop.Stop.{Stop}
 use Rattle.lie_scan.specs.Runs.{run, behind, after_blanks, is_in}
 use Rattle.lie_scan.specs.Stops.{stop, ◌>>=◌}
-use Rattle.lie_scan.specs.Names.{place_of, counts_of, variable_at}
+use Rattle.lie_scan.specs.Names.{place_of, letter_counts, variable_at}
+use Rattle.lie_scan.specs.Limits.{greatest_written_exponent}
+use Rattle.lie_system.specs.Limits.{greatest_written_order}
 
 -- ---- numbers
 -- a number with one more digit, up to 2^127 - 1
@@ -86,7 +88,8 @@ are_names names (c ∷ cs) = is_name (place_of names c) (are_names names cs)
 abbrev pub derivative_by : Space → Option ℕ → List ℕ → List ℕ → List ℕ → Result Coordinate Stop
 derivative_by S None names by text = Err (stop UnknownName text)
 derivative_by S (Some a) names by text =
-    if are_names names by then (if nat_lt 6 (length by) then Err (stop Order text) else Ok (jet a (take S.p (counts_of names by))))
+    if are_names names by then
+    (if nat_lt greatest_written_order (length by) then Err (stop Order text) else Ok (jet a (take S.p (letter_counts names by))))
     else Err (stop UnknownName text)
 
 unfoldable pub derivative : Space → List ℕ → List ℕ → List ℕ → List ℕ → Result Coordinate Stop
@@ -118,7 +121,7 @@ coordinate_at S names text =
 -- ---- powers
 abbrev pub exponent_value : Option ℕ → List ℕ → List ℕ → Result (ℕ × List ℕ) Stop
 exponent_value None text rest = Err (stop Exponent text)
-exponent_value (Some n) text rest = if nat_le 1 n && nat_le n 32 then Ok (n, rest) else Err (stop Exponent text)
+exponent_value (Some n) text rest = if nat_le 1 n && nat_le n greatest_written_exponent then Ok (n, rest) else Err (stop Exponent text)
 
 abbrev pub exponent_by : List ℕ → List ℕ → List ℕ → Result (ℕ × List ℕ) Stop
 exponent_by text rest [] = Ok (1, rest)

@@ -2,14 +2,18 @@
 ghost use Rattle.std.specs.Prelude.{◌≡◌, ◌+◌, ◌≤◌, ◌<◌, IsTrue, IfSome, IfOk, length, slice_index};
 ghost use Rattle.lie_geometry.specs.Coordinates.{number as number_in};
 ghost use Rattle.lie_scan.specs.Stops.{Gives};
-ghost use Rattle.lie_scan.specs.Names.{one_more, place_of, counts_of};
+ghost use Rattle.lie_scan.specs.Names.{one_more, place_of, letter_counts};
 ghost use Rattle.lie_scan.specs.Tokens.{place_of_word, are_names, derivative, plain, coordinate_at};
 ghost use Rattle.lie_scan.specs.Variables.{seen, IsVariable, AreCounts};
+ghost use Rattle.lie_system.specs.Limits.{greatest_variable_count, greatest_written_order};
 
 use crate::fault::BadKind;
 use crate::runs::{Class, split_run};
 use crate::stop::{Stop, stop_at};
 use lie_jet::{Jet, Space, jet_number};
+
+/// The greatest order of a derivative that is written.
+const MAX_ORDER: usize = 6;
 
 /// A coordinate: an independent variable by its place, or a jet.
 #[derive(Clone, Copy, Debug, PartialEq, Eq)]
@@ -58,7 +62,7 @@ pub fn place_of_word(names: &[u8], word: &[u8]) -> Option<u8>
 
 // Puts one more at a place.
 fn put_one_more(counts: &mut [u8; 4], place: Option<u8>)
-    requires within { IfSome place (λ i. i < 4) }
+    requires within { IfSome place (λ i. i < greatest_variable_count) }
     requires low { IfSome place (λ i. slice_index counts.old i < 255) }
     ensures { counts.new ≡ one_more counts.old place }
 {
@@ -68,10 +72,10 @@ fn put_one_more(counts: &mut [u8; 4], place: Option<u8>)
 }
 
 // How often each independent variable stands in a word.
-fn counts_of(independent: &[u8], word: &[u8]) -> [u8; 4]
-    requires few { length independent.now ≤ 4 }
-    requires short { length word.now ≤ 6 }
-    ensures value { result ≡ counts_of independent.now word.now }
+fn letter_counts(independent: &[u8], word: &[u8]) -> [u8; 4]
+    requires few { length independent.now ≤ greatest_variable_count }
+    requires short { length word.now ≤ greatest_written_order }
+    ensures value { result ≡ letter_counts independent.now word.now }
     ensures jet { AreCounts independent.now (length word.now) result }
 {
     let mut counts = [0; 4];
@@ -114,12 +118,12 @@ fn derivative(
         Some(dep) => {
             if !are_names(independent, by) {
                 Err(stop_at(BadKind::UnknownName, text))
-            } else if by.len() > 6 {
+            } else if by.len() > MAX_ORDER {
                 Err(stop_at(BadKind::Order, text))
             } else {
                 Ok(Variable::Dependent(Jet {
                     dep,
-                    counts: counts_of(independent, by),
+                    counts: letter_counts(independent, by),
                 }))
             }
         }

@@ -61,6 +61,14 @@ pub enum ReadFail {
     NoMemory,
 }
 
+impl From<lie_bytes::NoMemory> for ReadFail {
+    ghost from_gives = { λ _ e. e ≡ NoMemory };
+
+    fn from(_: lie_bytes::NoMemory) -> ReadFail {
+        ReadFail::NoMemory
+    }
+}
+
 impl From<AllocError> for ReadFail {
     ghost from_gives = { λ _ e. e ≡ NoMemory };
 

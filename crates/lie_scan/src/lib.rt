@@ -10,4 +10,3 @@ pub mod stop;
 pub mod sum;
 pub mod term;
 pub mod terms;
-pub mod within_limits;

@@ -4,24 +4,22 @@ ghost use Rattle.lie_scan.specs.Stops.{Reads};
 ghost use Rattle.lie_scan.specs.Terms.{raised, factor_at, factor_turn, factors_at, first_at, term_at};
 ghost use Rattle.lie_scan.specs.Answers.{turn_of};
 ghost use Rattle.lie_scan.specs.Exponents.{HasSmallExponents};
+ghost use Rattle.lie_scan.specs.Limits.{greatest_written_exponent};
 
 use crate::fault::BadKind;
 use crate::number::literal_at;
-use crate::power::{Power, power_at};
+use crate::power::{MAX_EXPONENT, Power, power_at};
 use crate::runs::{Class, after_blanks, is_in};
 use crate::stop::{LineFail, stop_at};
 use lie_jet::Space;
 use lie_ring::{Mono, PolyFail};
 use std::alloc::Global;
 
-/// The greatest exponent in a term.
-const MAX_EXPONENT: u32 = 32;
-
 /// The product of a monomial and a power; Exponent at the power where it has too high an exponent.
 pub fn raised(alloc: Global, mono: &Mono, power: Power, text: &[u8]) -> Result<Mono, LineFail>
     requires small { HasSmallExponents mono.now }
     requires low { 1 ≤ power.exponent }
-    requires high { power.exponent ≤ 32 }
+    requires high { power.exponent ≤ greatest_written_exponent }
     ensures value { Reads (λ m. m) result (raised mono.now (power.number, power.exponent) text.now) }
     ensures small { IfOk result HasSmallExponents }
 {

@@ -95,10 +95,8 @@ pub fn with_size(
         → size_in new other ≡ (if is_eq (key_cmp key other) then size else size_in sizes other)) }
 {
     let mut sizes = sizes;
-    match sizes.insert(key, size) {
-        Ok(_) => Ok(sizes),
-        Err(_) => Err(NoMemory),
-    }
+    sizes.insert(key, size)?;
+    Ok(sizes)
 }
 
 // The list with one more term.
@@ -110,8 +108,6 @@ fn with_last(
     ensures { IfOk result (λ new. new.items ≡ list.items ++ (mono, value) ∷ []) }
 {
     let mut list = list;
-    match list.push((mono, value)) {
-        Ok(()) => Ok(list),
-        Err(_) => Err(NoMemory),
-    }
+    list.push((mono, value))?;
+    Ok(list)
 }

@@ -9,11 +9,11 @@ use Rattle.std.proofs.lemmas.Cmp.{upto, tied_itself}
 use Rattle.std.proofs.lemmas.List.Folds.{list_any-append}
 use Rattle.lie_geometry.specs.Coordinates.{Space, number, coordinate}
 use Rattle.lie_geometry.proofs.Numbers.{coordinate_is}
-use Rattle.lie_ring.specs.Rankings.{Ranked, degree_rank}
+use Rattle.lie_ring.specs.Rankings.{Ranked, IsRanking, degree_rank}
 use Rattle.lie_ring.specs.DegreeRanking.{degree_rank_is_ranking}
 use Rattle.lie_jet.specs.Jets.{coordinate_of, IsJet, IsSmall}
 use Rattle.lie_jet.specs.declared.jet.Jet.{Jet}
-use Rattle.lie_solved.specs.Leads.{ranked}
+use Rattle.lie_solved.specs.Leads.{JetOrder, ranked}
 use Rattle.lie_solved.specs.Equations.{is_greater, IsGreatestOf, IsBest}
 use Rattle.lie_math.proofs.EveryElement.{every-append}
 
@@ -27,11 +27,12 @@ reversed Equal e = absurd (true≢false (sym e))
 reversed Greater e = refl
 
 -- ---- the order of derivatives
-pub rank_itself : (d : Ranked) → is_gt (degree_rank d d) ≡ false
-rank_itself d = ap is_gt (tied_itself degree_rank_is_ranking.total d)
+module _ (rank : JetOrder) (ranking : IsRanking rank) where
+  pub rank_itself : (d : Ranked) → is_gt (rank d d) ≡ false
+  rank_itself d = ap is_gt (tied_itself ranking.total d)
 
-pub rank_through : (d e f : Ranked) → is_gt (degree_rank d e) ≡ false → is_gt (degree_rank f e) ≡ true → is_gt (degree_rank d f) ≡ false
-rank_through d e f h k = upto degree_rank_is_ranking.total d e f h (ap is_gt (degree_rank_is_ranking.total.antisymm e f) ∙ reversed (degree_rank f e) k)
+  pub rank_through : (d e f : Ranked) → is_gt (rank d e) ≡ false → is_gt (rank f e) ≡ true → is_gt (rank d f) ≡ false
+  rank_through d e f h k = upto ranking.total d e f h (ap is_gt (ranking.total.antisymm e f) ∙ reversed (rank f e) k)
 
 module _ (S : Space) where
   -- ---- a coordinate that is no derivative
@@ -56,7 +57,7 @@ module _ (S : Space) where
     number_is = ap (number S) (sym is.1) ∙ (coordinate_is S small.some_p small.some_q w).1
 
     itself : is_greater S j w ≡ false
-    itself = and_right (leb (S.p + S.q) w) _ (ap (λ x. is_gt (degree_rank (ranked x) (ranked (coordinate_of S j)))) is.1 ∙ rank_itself (ranked (coordinate_of S j)))
+    itself = and_right (leb (S.p + S.q) w) _ (ap (λ x. is_gt (degree_rank (ranked x) (ranked (coordinate_of S j)))) is.1 ∙ rank_itself degree_rank degree_rank_is_ranking (ranked (coordinate_of S j)))
 
     new_best : (ws : List ℕ) → Every (λ v. is_greater S j v ≡ false) ws → IsGreatestOf S (ws ++ w ∷ []) j
     new_best ws h = record {
@@ -75,7 +76,7 @@ module _ (S : Space) where
     under k e (v ∷ ws) h = (go (leb (S.p + S.q) v) h.0, under k e ws h.1)
       where
         go : (b : Bool) → (b && is_gt (degree_rank (ranked (coordinate S v)) (ranked (coordinate_of S k)))) ≡ false → (b && is_gt (degree_rank (ranked (coordinate S v)) (ranked (coordinate_of S j)))) ≡ false
-        go true h = rank_through (ranked (coordinate S v)) (ranked (coordinate_of S k)) (ranked (coordinate_of S j)) h e
+        go true h = rank_through degree_rank degree_rank_is_ranking (ranked (coordinate S v)) (ranked (coordinate_of S k)) (ranked (coordinate_of S j)) h e
         go false h = refl
 
     pub best_of_two : (ws : List ℕ) (k best : Jet) → best ≡ (if is_gt (degree_rank (ranked (coordinate_of S j)) (ranked (coordinate_of S k))) then j else k) → IsGreatestOf S ws k → IsGreatestOf S (ws ++ w ∷ []) best

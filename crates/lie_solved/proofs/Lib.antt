@@ -9,4 +9,3 @@ pub mod OneForm
 pub mod ReadyRules
 pub mod SolvedOrRefused
 pub mod AlikeEquations
-pub mod DerivativesAlone

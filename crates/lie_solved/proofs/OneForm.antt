@@ -17,12 +17,11 @@ use Rattle.lie_geometry.specs.Coordinates.{Space, Coordinate, independent, jet, 
 use Rattle.lie_geometry.specs.CoordinateLaws.{IsSpace}
 use Rattle.lie_geometry.specs.SolvedEquations.{SolvedEquation, difference, is_lead}
 use Rattle.lie_geometry.proofs.Numbers.{coordinate_is}
-use Rattle.lie_ring.specs.Rankings.{degree_rank}
-use Rattle.lie_ring.specs.DegreeRanking.{degree_rank_is_ranking}
+use Rattle.lie_ring.specs.Rankings.{IsRanking}
 use Rattle.lie_system.specs.Systems.{EquationRead}
 use Rattle.lie_solved.specs.declared.solved.NotKind.TheVariants.{NoDerivative, LeadNotLinear, LeadRepeated, LeadInside}
-use Rattle.lie_solved.specs.Leads.{IsGreatest, IsLead, IsLeadBy, IsLinearIn, ranked}
-use Rattle.lie_solved.specs.SolvedForms.{IsSolvedBy, AreSolvedBy}
+use Rattle.lie_solved.specs.Leads.{JetOrder, IsGreatestUnder, IsLeadUnder, IsLeadByUnder, IsLinearIn, ranked}
+use Rattle.lie_solved.specs.SolvedForms.{IsSolvedUnder, AreSolvedUnder}
 use Rattle.lie_solved.specs.Refusals.{HasNoLead}
 use Rattle.lie_solved.specs.Laws.{SolvedFormIsOne, RefusedHasNoForm}
 use Rattle.lie_solved.proofs.LinearTerms.{exponent_single}
@@ -45,8 +44,8 @@ tied Less Greater e h k = absurd (k refl)
 tied Equal s e h k = refl
 tied Greater s e h k = absurd (h refl)
 
-module _ (S : Space) (is : IsSpace S) where
-  pub greatest_same : (P : WholePolynomial) (v w : ℕ) → IsGreatest S P v → IsGreatest S P w → v ≡ w
+module _ (rank : JetOrder) (ranking : IsRanking rank) (S : Space) (is : IsSpace S) where
+  pub greatest_same : (P : WholePolynomial) (v w : ℕ) → IsGreatestUnder rank S P v → IsGreatestUnder rank S P w → v ≡ w
   greatest_same P v w h k =
       let cv = coordinate_is S is.0 is.1 v in
       let cw = coordinate_is S is.0 is.1 w in
@@ -54,14 +53,14 @@ module _ (S : Space) (is : IsSpace S) where
       let dw : S.p + S.q ≤ w = k.derivative in
       let lv : S.p ≤ number S (coordinate S v) = let e = cv.1 in omega arith in
       let lw : S.p ≤ number S (coordinate S w) = let e = cw.1 in omega arith in
-      let e = tied (degree_rank (ranked (coordinate S v)) (ranked (coordinate S w))) (degree_rank (ranked (coordinate S w)) (ranked (coordinate S v))) (degree_rank_is_ranking.total.antisymm (ranked (coordinate S v)) (ranked (coordinate S w)))
+      let e = tied (rank (ranked (coordinate S v)) (ranked (coordinate S w))) (rank (ranked (coordinate S w)) (ranked (coordinate S v))) (ranking.total.antisymm (ranked (coordinate S v)) (ranked (coordinate S w)))
       (k.greatest v h.derivative h.occurs) (h.greatest w k.derivative k.occurs) in
-      sym cv.1 ∙ ap (number S) (ranked_same S (coordinate S v) (coordinate S w) cv.0 cw.0 lv lw (degree_rank_is_ranking.same (ranked (coordinate S v)) (ranked (coordinate S w)) e)) ∙ cw.1
+      sym cv.1 ∙ ap (number S) (ranked_same S (coordinate S v) (coordinate S w) cv.0 cw.0 lv lw (ranking.same (ranked (coordinate S v)) (ranked (coordinate S w)) e)) ∙ cw.1
 
-  pub lead_same : (e : EquationRead) (v w : ℕ) → IsLead S e v → IsLead S e w → v ≡ w
+  pub lead_same : (e : EquationRead) (v w : ℕ) → IsLeadUnder rank S e v → IsLeadUnder rank S e w → v ≡ w
   lead_same e v w h k = go e.lead h k
     where
-      go : (o : Option Coordinate) → IsLeadBy S o e.diff v → IsLeadBy S o e.diff w → v ≡ w
+      go : (o : Option Coordinate) → IsLeadByUnder rank S o e.diff v → IsLeadByUnder rank S o e.diff w → v ≡ w
       go (Some c) h k = h ∙ sym k
       go None h k = greatest_same e.diff v w h k
 
@@ -106,7 +105,7 @@ signed_at : (r : SolvedEquation) (P : WholePolynomial) → (difference r ≡ P) 
 signed_at r P (inl e) m = inl (ap (λ p. coefficient p m) e)
 signed_at r P (inr e) m = inr (ap (λ p. coefficient p m) e ∙ coefficient-constant_times (negsuc 0) P m)
 
-module _ (S : Space) (e : EquationRead) (r : SolvedEquation) (h : IsSolvedBy S e r) where
+module _ (rank : JetOrder) (S : Space) (e : EquationRead) (r : SolvedEquation) (h : IsSolvedUnder rank S e r) where
   pub apart : ¬ (coefficient e.diff (single r.lead) ≡ pos 0)
   apart z = go (signed_at r e.diff h.same (single r.lead))
     where
@@ -138,12 +137,12 @@ rights_same r s l f h = ext terms r.right s.right (λ m. cancel (r.factor *ℤ c
     cancel : (a x y : ℤ) → a +ℤ negsuc 0 *ℤ x ≡ a +ℤ negsuc 0 *ℤ y → x ≡ y
     cancel a x y e = omega (arith, ints)
 
-module _ (S : Space) (is : IsSpace S) where
-  pub solved_same : (e : EquationRead) (r s : SolvedEquation) → IsSolvedBy S e r → IsSolvedBy S e s → r ≡ s
+module _ (rank : JetOrder) (ranking : IsRanking rank) (S : Space) (is : IsSpace S) where
+  pub solved_same : (e : EquationRead) (r s : SolvedEquation) → IsSolvedUnder rank S e r → IsSolvedUnder rank S e s → r ≡ s
   solved_same e r s h k = rule_same r s leads factors (rights_same r s leads factors (λ m. all m (signs h.same k.same)))
     where
       leads : r.lead ≡ s.lead
-      leads = lead_same S is e r.lead s.lead h.lead k.lead
+      leads = lead_same rank ranking S is e r.lead s.lead h.lead k.lead
 
       Signs : Type 0
       Signs = ((difference r ≡ e.diff) × (difference s ≡ e.diff)) ⊎ ((difference r ≡ negᴾ e.diff) × (difference s ≡ negᴾ e.diff))
@@ -167,7 +166,7 @@ module _ (S : Space) (is : IsSpace S) where
       factors : r.factor ≡ s.factor
       factors = sym (at_lead r h.free) ∙ all (single r.lead) (signs h.same k.same) ∙ at_s
 
-  pub all_same : (es : List EquationRead) (rs ss : List SolvedEquation) → AreSolvedBy S es rs → AreSolvedBy S es ss → rs ≡ ss
+  pub all_same : (es : List EquationRead) (rs ss : List SolvedEquation) → AreSolvedUnder rank S es rs → AreSolvedUnder rank S es ss → rs ≡ ss
   all_same [] [] [] h k = refl
   all_same [] [] (s ∷ ss) h k = absurd k
   all_same [] (r ∷ rs) ss h k = absurd h
@@ -176,20 +175,20 @@ module _ (S : Space) (is : IsSpace S) where
   all_same (e ∷ es) (r ∷ rs) (s ∷ ss) h k = ap₂ ◌∷◌ (solved_same e r s h.0 k.0) (all_same es rs ss h.1 k.1)
 
 -- ---- the rule of an equation in the middle
-pub record Middle (S : Space) (before : List EquationRead) (e : EquationRead) (rs : List SolvedEquation) : Type 0 where
+pub record Middle (rank : JetOrder) (S : Space) (before : List EquationRead) (e : EquationRead) (rs : List SolvedEquation) : Type 0 where
   pub first : List SolvedEquation
   pub rule : SolvedEquation
   pub rest : List SolvedEquation
   pub place : rs ≡ first ++ rule ∷ rest
-  pub earlier : AreSolvedBy S before first
-  pub solves : IsSolvedBy S e rule
+  pub earlier : AreSolvedUnder rank S before first
+  pub solves : IsSolvedUnder rank S e rule
 
-pub middle_of : (S : Space) (before : List EquationRead) (e : EquationRead) (after : List EquationRead) (rs : List SolvedEquation) → AreSolvedBy S (before ++ e ∷ after) rs → Middle S before e rs
-middle_of S [] e after [] h = absurd h
-middle_of S [] e after (r ∷ rs) h = record { first = []; rule = r; rest = rs; place = refl; earlier = tt; solves = h.0 }
-middle_of S (d ∷ before) e after [] h = absurd h
-middle_of S (d ∷ before) e after (r ∷ rs) h =
-    let m = middle_of S before e after rs h.1 in
+pub middle_of : (rank : JetOrder) (S : Space) (before : List EquationRead) (e : EquationRead) (after : List EquationRead) (rs : List SolvedEquation) → AreSolvedUnder rank S (before ++ e ∷ after) rs → Middle rank S before e rs
+middle_of rank S [] e after [] h = absurd h
+middle_of rank S [] e after (r ∷ rs) h = record { first = []; rule = r; rest = rs; place = refl; earlier = tt; solves = h.0 }
+middle_of rank S (d ∷ before) e after [] h = absurd h
+middle_of rank S (d ∷ before) e after (r ∷ rs) h =
+    let m = middle_of rank S before e after rs h.1 in
     record { first = r ∷ m.first; rule = m.rule; rest = m.rest; place = ap (λ ss. r ∷ ss) m.place; earlier = (h.0, m.earlier); solves = m.solves }
 
 -- ---- leads
@@ -217,21 +216,21 @@ every_middle Q (x ∷ rs) r ss h = every_middle Q rs r ss h.1
 
 -- ---- the laws
 pub solved_form_is_one : SolvedFormIsOne
-solved_form_is_one S is es rs ss h k = all_same S is es rs ss h.equations k.equations
+solved_form_is_one rank ranking S is es rs ss h k = all_same rank ranking S is es rs ss h.equations k.equations
 
 pub refused_has_no_form : RefusedHasNoForm
-refused_has_no_form S is es rs h NoDerivative k (ss, e, at, none) =
-    let m = middle_of S at.before e at.after rs (subst (λ xs. AreSolvedBy S xs rs) at.place h.equations) in
-    has_single m.rule.lead (none m.rule.lead (not_less_test m.rule.lead (S.p + S.q) m.solves.derivative) (single m.rule.lead) (apart S e m.rule m.solves))
-refused_has_no_form S is es rs h LeadNotLinear k (ss, e, at, bent) =
-    let m = middle_of S at.before e at.after rs (subst (λ xs. AreSolvedBy S xs rs) at.place h.equations) in
-    bent.bent (subst (λ w. IsLinearIn w e.diff) (lead_same S is e m.rule.lead bent.lead m.solves.lead bent.is) (solved_linear S e m.rule m.solves))
-refused_has_no_form S is es rs h LeadRepeated k (ss, e, at, repeated) =
-    let m = middle_of S at.before e at.after rs (subst (λ xs. AreSolvedBy S xs rs) at.place h.equations) in
-    let same : ss ≡ m.first = all_same S is at.before ss m.first at.passed.equations m.earlier in
-    let rule : repeated.rule ≡ m.rule = solved_same S is e repeated.rule m.rule repeated.solves m.solves in
+refused_has_no_form rank ranking S is es rs h NoDerivative k (ss, e, at, none) =
+    let m = middle_of rank S at.before e at.after rs (subst (λ xs. AreSolvedUnder rank S xs rs) at.place h.equations) in
+    has_single m.rule.lead (none m.rule.lead (not_less_test m.rule.lead (S.p + S.q) m.solves.derivative) (single m.rule.lead) (apart rank S e m.rule m.solves))
+refused_has_no_form rank ranking S is es rs h LeadNotLinear k (ss, e, at, bent) =
+    let m = middle_of rank S at.before e at.after rs (subst (λ xs. AreSolvedUnder rank S xs rs) at.place h.equations) in
+    bent.bent (subst (λ w. IsLinearIn w e.diff) (lead_same rank ranking S is e m.rule.lead bent.lead m.solves.lead bent.is) (solved_linear rank S e m.rule m.solves))
+refused_has_no_form rank ranking S is es rs h LeadRepeated k (ss, e, at, repeated) =
+    let m = middle_of rank S at.before e at.after rs (subst (λ xs. AreSolvedUnder rank S xs rs) at.place h.equations) in
+    let same : ss ≡ m.first = all_same rank ranking S is at.before ss m.first at.passed.equations m.earlier in
+    let rule : repeated.rule ≡ m.rule = solved_same rank ranking S is e repeated.rule m.rule repeated.solves m.solves in
     no_repeat m.first m.rule m.rest (subst (λ xs. AllPairs (λ x y. ¬ (x.lead ≡ y.lead)) xs) m.place h.solved.leads) (ap₂ (λ xs (x : SolvedEquation). is_lead xs x.lead) (sym same) (sym rule) ∙ repeated.repeated)
-refused_has_no_form S is es rs h LeadInside k (ss, passed, inside) =
-    let same : rs ≡ ss = all_same S is es rs ss h.equations passed.equations in
+refused_has_no_form rank ranking S is es rs h LeadInside k (ss, passed, inside) =
+    let same : rs ≡ ss = all_same rank ranking S is es rs ss h.equations passed.equations in
     let none : Every (HasNoLead rs) rs = recursion_from_All (HasNoLead rs) rs h.solved.rights in
     inside.inside (every_middle (HasNoLead ss) inside.before inside.rule inside.after (subst (Every (HasNoLead ss)) inside.place (subst (λ xs. Every (HasNoLead xs) xs) same none)))

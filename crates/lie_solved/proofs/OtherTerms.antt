@@ -23,15 +23,9 @@ use Rattle.lie_math.specs.FiniteSum.{IsCanonical}
 use Rattle.lie_math.proofs.CanonicalLists.{canonical_value, canonical_below, canonical_tail, canonical_cons}
 use Rattle.lie_math.proofs.Monomial.{same_monomial}
 use Rattle.lie_math.proofs.Weighing.{coefficient-constant_times}
-use Rattle.lie_ring.specs.Causes.{IsCause}
-use Rattle.lie_ring.specs.Entries.{entries}
-use Rattle.lie_ring.specs.declared.failures.PolyFail.{PolyFail}
-use Rattle.lie_poly.specs.Failures.{IsStarved}
 use Rattle.lie_geometry.specs.SolvedEquations.{SolvedEquation, difference}
 use Rattle.lie_solved.specs.Equations.{turned, rest_of, IsLinearWith}
 use Rattle.lie_solved.proofs.LinearTerms.{exponent_single}
-use Rattle.lie_jet.proofs.Absolutes.{within_starved}
-use Rattle.lie_jet.proofs.TotalParts.{entries_same}
 
 -- ---- one more term
 rest_of-append : (w : ℕ) (b : Bool) (ts us : List (Monomial × ℤ)) → rest_of w b (ts ++ us) ≡ rest_of w b ts ++ rest_of w b us
@@ -128,14 +122,11 @@ length_rest w b (e ∷ es) = go (eqb (exponent e.0 w) 0) (length_rest w b es)
     go true le = omega arith
     go false le = omega arith
 
-rest_within : (w : ℕ) (b : Bool) (P : WholePolynomial) → IsWithinLimits P → IsWithinLimits (polynomial_of (absolutes (rest_of w b P.list)))
+pub rest_within : (w : ℕ) (b : Bool) (P : WholePolynomial) → IsWithinLimits P → IsWithinLimits (polynomial_of (absolutes (rest_of w b P.list)))
 rest_within w b P h =
     limits_of (absolutes (rest_of w b P.list)) (canonical_absolutes (rest_of w b P.list) (canonical_rest w b P.list P.canonical))
     (within_rest w b P.list (entries_of terms P (λ e. FitsNumber e.1 × HasLowExponents e.0) (λ e is apart. (subst FitsNumber is (h.coefficients e.0), h.exponents e.0 (λ z. apart (sym is ∙ z))))))
     (let l = length-absolutes (rest_of w b P.list) in let m = length_rest w b P.list in let n = h.terms in omega arith)
-
-pub rest_starved : (w : ℕ) (b : Bool) (P : WholePolynomial) (rest : List (Monomial × ℤ)) (fail : PolyFail) → IsWithinLimits P → rest ≡ rest_of w b P.list → IsCause fail (polynomial_of (absolutes (entries (λ z. z) rest))) → IsStarved fail
-rest_starved w b P rest fail h e c = within_starved fail (polynomial_of (absolutes (rest_of w b P.list))) (rest_within w b P h) (subst (λ es. IsCause fail (polynomial_of (absolutes es))) (entries_same rest ∙ e) c)
 
 -- ---- the two sides
 pub free_rest : (w : ℕ) (b : Bool) (P : WholePolynomial) → FreeOf w (polynomial_of (rest_of w b P.list))

@@ -13,6 +13,7 @@ use Rattle.lie_math.specs.Polynomial.{WholePolynomial, polynomial_of}
 use Rattle.lie_math.specs.Variables.{FreeOf}
 use Rattle.lie_geometry.specs.Coordinates.{Space, number}
 use Rattle.lie_geometry.specs.SolvedEquations.{SolvedEquation, is_lead}
+use Rattle.lie_ring.specs.Rankings.{degree_rank}
 use Rattle.lie_jet.specs.Jets.{coordinate_of, IsJet}
 use Rattle.lie_jet.specs.declared.jet.Jet.{Jet}
 use Rattle.lie_system.specs.Systems.{EquationRead}
@@ -20,9 +21,9 @@ use Rattle.lie_solved.specs.declared.solved.LeadRule.{LeadRule}
 use Rattle.lie_solved.specs.declared.solved.NotKind.TheVariants.{NoDerivative, LeadNotLinear, LeadRepeated, LeadInside}
 use Rattle.lie_solved.specs.declared.rule.RuleFail.{RuleFail}
 use Rattle.lie_solved.specs.declared.rule.RuleFail.TheVariants.{Not, NoMemory}
-use Rattle.lie_solved.specs.Leads.{IsLinearIn}
-use Rattle.lie_solved.specs.SolvedForms.{solved_equation, solved_equations, IsSolvedBy, AreSolvedBy, HaveDistinctLeads, IsSolvedForm}
-use Rattle.lie_solved.specs.Refusals.{ArePassed, IsReached, HasLeadNotLinear, HasNoLead, IsFirstInside, IsRefusal}
+use Rattle.lie_solved.specs.Leads.{JetOrder, IsLinearIn}
+use Rattle.lie_solved.specs.SolvedForms.{solved_equation, solved_equations, IsSolvedUnder, AreSolvedUnder, AreSolvedBy, HaveDistinctLeads, IsSolvedFormUnder, IsSolvedForm}
+use Rattle.lie_solved.specs.Refusals.{ArePassedUnder, IsReached, HasLeadNotLinear, HasNoLead, IsFirstInside, IsSolveFormCause}
 use Rattle.lie_system.specs.Written.{IsWritten}
 use Rattle.lie_solved.specs.Equations.{IsRule, AreRules, HasLead, IsLinearWith, turned, rest_of, is_plain, variables_in, variables_of}
 use Rattle.lie_solved.specs.Causes.{IsRuleCause, failed_at}
@@ -57,7 +58,7 @@ pub not_linear : (S : Space) (e : EquationRead) (j : Jet) (w : ℕ) → HasLead 
 not_linear S e j w h n bent = record { some = h.some; lead = number S (coordinate_of S j); is = h.lead; bent = subst (λ v. ¬ (IsLinearIn v e.diff)) n bent }
 
 -- the failure of one equation is that of the system
-pub cause_at : (S : Space) (e : EquationRead) (fail : RuleFail) (k : ℕ) → IsRuleCause S e fail → (es : List EquationRead) (rs : List SolvedEquation) → IsReached S es k rs e → IsRefusal S es (failed_at k fail)
+pub cause_at : (S : Space) (e : EquationRead) (fail : RuleFail) (k : ℕ) → IsRuleCause S e fail → (es : List EquationRead) (rs : List SolvedEquation) → IsReached S es k rs e → IsSolveFormCause S es (failed_at k fail)
 cause_at S e (Not NoDerivative) k h es rs at = (rs, e, at, h)
 cause_at S e (Not LeadNotLinear) k h es rs at = (rs, e, at, h)
 cause_at S e (Not LeadRepeated) k h es rs at = absurd h
@@ -87,13 +88,14 @@ module _ {X Y : Type 0} (f : X → Y) where
   length_taken : (xs : List X) (i : ℕ) → i < length xs → i + 1 ≡ suc (length (map f (take i xs)))
   length_taken xs i lt = let a = length-map (take i xs) f in let b = length-take-le i xs (omega arith) in omega arith
 
-module _ (S : Space) where
-  pub solved-append : (es : List EquationRead) (rs : List SolvedEquation) (e : EquationRead) (r : SolvedEquation) → AreSolvedBy S es rs → IsSolvedBy S e r → AreSolvedBy S (es ++ e ∷ []) (rs ++ r ∷ [])
+module _ (rank : JetOrder) (S : Space) where
+  pub solved-append : (es : List EquationRead) (rs : List SolvedEquation) (e : EquationRead) (r : SolvedEquation) → AreSolvedUnder rank S es rs → IsSolvedUnder rank S e r → AreSolvedUnder rank S (es ++ e ∷ []) (rs ++ r ∷ [])
   solved-append [] [] e r h k = (k, tt)
   solved-append [] (s ∷ rs) e r h k = absurd h
   solved-append (d ∷ es) [] e r h k = absurd h
   solved-append (d ∷ es) (s ∷ rs) e r h k = (h.0, solved-append es rs e r h.1 k)
 
+module _ (S : Space) where
   -- ---- the first equations
   pub written_at : {X : Type 0} (f : X → EquationRead) (xs : List X) (i : ℕ) (x : X) → i < length xs → x ≡ get_or xs i x → Every (IsWritten S) (map f xs) → IsWritten S (f x)
   written_at f [] i x lt is h = absurd (omega arith)
@@ -114,7 +116,7 @@ module _ (S : Space) where
       let rs = map-append (solved_equation S) rules (r ∷ []) in
       record {
         passed = record {
-          equations = subst (λ es. AreSolvedBy S es (solved_equations S (rules ++ r ∷ []))) (sym (map_more f xs i x lt is)) (subst (AreSolvedBy S (map f (take i xs) ++ f x ∷ [])) (sym rs) (solved-append (map f (take i xs)) (solved_equations S rules) (f x) (solved_equation S r) h.passed.equations k.solves));
+          equations = subst (λ es. AreSolvedBy S es (solved_equations S (rules ++ r ∷ []))) (sym (map_more f xs i x lt is)) (subst (AreSolvedBy S (map f (take i xs) ++ f x ∷ [])) (sym rs) (solved-append degree_rank S (map f (take i xs)) (solved_equations S rules) (f x) (solved_equation S r) h.passed.equations k.solves));
           leads = subst HaveDistinctLeads (sym rs) (all_pairs_push (λ r s. ¬ (r.lead ≡ s.lead)) (solved_equations S rules) (solved_equation S r) h.passed.leads (λ j d lt. not_lead_at (solved_equations S rules) (solved_equation S r).lead j d n lt));
         };
         jets = every-append (λ (r : LeadRule). IsJet S 6 r.lead) rules (r ∷ []) h.jets (k.jet, tt);
@@ -178,27 +180,27 @@ module _ (S : Space) (rules : List LeadRule) where
   }
 
 -- ---- all equations
-factors_of : (S : Space) (es : List EquationRead) (rs : List SolvedEquation) → AreSolvedBy S es rs → Every (λ (r : SolvedEquation). ¬ (r.factor ≡ pos 0)) rs
-factors_of S [] [] h = tt
-factors_of S [] (r ∷ rs) h = absurd h
-factors_of S (e ∷ es) [] h = absurd h
-factors_of S (e ∷ es) (r ∷ rs) h = ((λ z. let f = h.0.positive.1 in go (h.0.positive.0) (sym f ∙ z)), factors_of S es rs h.1)
+factors_of : (rank : JetOrder) (S : Space) (es : List EquationRead) (rs : List SolvedEquation) → AreSolvedUnder rank S es rs → Every (λ (r : SolvedEquation). ¬ (r.factor ≡ pos 0)) rs
+factors_of rank S [] [] h = tt
+factors_of rank S [] (r ∷ rs) h = absurd h
+factors_of rank S (e ∷ es) [] h = absurd h
+factors_of rank S (e ∷ es) (r ∷ rs) h = ((λ z. let f = h.0.positive.1 in go (h.0.positive.0) (sym f ∙ z)), factors_of rank S es rs h.1)
   where
     go : (n : ℕ) → pos (suc n) ≡ pos zero → ⊥
     go n e = absurd (cc)
 
-pub form_is : (S : Space) (es : List EquationRead) (rs : List SolvedEquation) → ArePassed S es rs → Every (HasNoLead rs) rs → IsSolvedForm S es rs
-form_is S es rs h none = record {
+pub form_is : (rank : JetOrder) (S : Space) (es : List EquationRead) (rs : List SolvedEquation) → ArePassedUnder rank S es rs → Every (HasNoLead rs) rs → IsSolvedFormUnder rank S es rs
+form_is rank S es rs h none = record {
   equations = h.equations;
   solved = record {
-    factors = All-from_recursion (λ r. ¬ (r.factor ≡ pos 0)) rs (factors_of S es rs h.equations);
+    factors = All-from_recursion (λ r. ¬ (r.factor ≡ pos 0)) rs (factors_of rank S es rs h.equations);
     leads = h.leads;
     rights = All-from_recursion (HasNoLead rs) rs none;
   };
 }
 
 pub form_of_rules : (S : Space) (es : List EquationRead) (rules all : List LeadRule) → AreRules S es rules → all ≡ rules → Every (HasNoLead (solved_equations S all)) (solved_equations S all) → IsSolvedForm S es (solved_equations S rules)
-form_of_rules S es rules all h e none = form_is S es (solved_equations S rules) h.passed (subst (λ rs. Every (HasNoLead (solved_equations S rs)) (solved_equations S rs)) e none)
+form_of_rules S es rules all h e none = form_is degree_rank S es (solved_equations S rules) h.passed (subst (λ rs. Every (HasNoLead (solved_equations S rs)) (solved_equations S rs)) e none)
 
 pub few_rules : (S : Space) (es : List EquationRead) (rules all : List LeadRule) → length es ≤ 16 → AreRules S es rules → all ≡ rules → length all ≤ 16
 few_rules S es rules all few h e = let a = rules_few S es (solved_equations S rules) h.passed.equations in let b = length-map rules (solved_equation S) in let d = ap length e in omega arith

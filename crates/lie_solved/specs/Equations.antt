@@ -10,12 +10,13 @@ use Rattle.lie_geometry.specs.SolvedEquations.{is_lead}
 use Rattle.lie_ring.specs.Rankings.{degree_rank}
 use Rattle.lie_jet.specs.Jets.{coordinate_of, IsJet}
 use Rattle.lie_jet.specs.declared.jet.Jet.{Jet}
+use Rattle.lie_system.specs.Limits.{greatest_written_order, greatest_jet_order}
 use Rattle.lie_system.specs.Systems.{EquationRead}
 use Rattle.lie_solved.specs.declared.solved.LeadRule.{LeadRule}
 use Rattle.lie_solved.specs.Leads.{ranked, IsDerivative, HasNoDerivative, IsLead, IsLinearIn}
 use Rattle.lie_solved.specs.SolvedForms.{solved_equation, solved_equations, IsSolvedBy}
 use Rattle.lie_solved.specs.declared.solved.SolveFormFail.{SolveFormFail}
-use Rattle.lie_solved.specs.Refusals.{ArePassed, IsReached, IsRefusal}
+use Rattle.lie_solved.specs.Refusals.{ArePassed, IsReached, IsSolveFormCause}
 
 -- ---- the variables of terms
 abbrev pub variables_in : List (ℕ × ℕ) → List ℕ
@@ -32,7 +33,7 @@ is_greater S j w = leb (S.p + S.q) w && is_gt (degree_rank (ranked (coordinate S
 
 -- j is the greatest derivative among coordinates
 pub record IsGreatestOf (S : Space) (ws : List ℕ) (j : Jet) : Type 0 where
-  pub jet : IsJet S 12 j
+  pub jet : IsJet S greatest_jet_order j
   pub derivative : IsDerivative S (number S (coordinate_of S j))
   pub occurs : list_any (λ w. eqb w (number S (coordinate_of S j))) ws ≡ true
   pub greatest : Every (λ w. is_greater S j w ≡ false) ws
@@ -44,7 +45,7 @@ IsBest S ws (Some j) = IsGreatestOf S ws j
 -- the equation has a derivative, and j is its lead
 pub record HasLead (S : Space) (e : EquationRead) (j : Jet) : Type 0 where
   pub some : ¬ (HasNoDerivative S e.diff)
-  pub jet : IsJet S 6 j
+  pub jet : IsJet S greatest_written_order j
   pub derivative : IsDerivative S (number S (coordinate_of S j))
   pub lead : IsLead S e (number S (coordinate_of S j))
 
@@ -69,13 +70,13 @@ is_plain (pos n) = true
 is_plain (negsuc n) = false
 
 -- ---- rules
--- the rule solves the equation, and its lead is a jet of order at most 6
+-- the rule solves the equation, and its lead is a jet of a written order
 pub record IsRule (S : Space) (e : EquationRead) (r : LeadRule) : Type 0 where
   pub solves : IsSolvedBy S e (solved_equation S r)
-  pub jet : IsJet S 6 r.lead
+  pub jet : IsJet S greatest_written_order r.lead
 
 abbrev pub HaveJets : Space → List LeadRule → Type 0
-HaveJets S rs = Every (λ (r : LeadRule). IsJet S 6 r.lead) rs
+HaveJets S rs = Every (λ (r : LeadRule). IsJet S greatest_written_order r.lead) rs
 
 -- the rules solve the equations one by one, with distinct leads
 pub record AreRules (S : Space) (es : List EquationRead) (rs : List LeadRule) : Type 0 where
@@ -88,4 +89,4 @@ IsNextRule S rs e r = IsRule S e r × (is_lead (solved_equations S rs) (solved_e
 
 -- a system is refused so where the equation e is reached as the k-th one
 abbrev pub IsRefusalAt : Space → List LeadRule → EquationRead → ℕ → SolveFormFail → Type 0
-IsRefusalAt S rs e k fail = (es : List EquationRead) → IsReached S es k (solved_equations S rs) e → IsRefusal S es fail
+IsRefusalAt S rs e k fail = (es : List EquationRead) → IsReached S es k (solved_equations S rs) e → IsSolveFormCause S es fail

@@ -1,6 +1,6 @@
 -- The lead of an equation: the derivative that is its left side alone, and else the greatest one that occurs.
 use Rattle.std.specs.Prelude.{◌≡◌, ℕ, ◌+◌, ◌≤◌, ltb, [], pos, Option, Some, None}
-use Rattle.std.proofs.Common.{Greater}
+use Rattle.std.proofs.Common.{Ordering, Greater}
 use Rattle.lie_math.specs.Monomial.{Monomial, exponent, single}
 use Rattle.lie_math.specs.Polynomial.{WholePolynomial, coefficient}
 use Rattle.lie_math.specs.Variables.{IsIn}
@@ -25,20 +25,35 @@ abbrev pub ranked : Coordinate → Ranked
 ranked (independent i) = ([], 0)
 ranked (jet a J) = (J, a)
 
--- the greatest derivative that occurs, by the order of derivatives, then the dependent variable, then the counts
-pub record IsGreatest (S : Space) (P : WholePolynomial) (w : ℕ) : Type 0 where
+-- ---- under any order of derivatives
+abbrev pub JetOrder : Type 0
+JetOrder = Ranked → Ranked → Ordering
+
+-- the greatest derivative that occurs
+pub record IsGreatestUnder (rank : JetOrder) (S : Space) (P : WholePolynomial) (w : ℕ) : Type 0 where
   pub derivative : IsDerivative S w
   pub occurs : Occurs w P
-  pub greatest : (v : ℕ) → IsDerivative S v → Occurs v P → ¬ (degree_rank (ranked (coordinate S v)) (ranked (coordinate S w)) ≡ Greater)
+  pub greatest : (v : ℕ) → IsDerivative S v → Occurs v P → ¬ (rank (ranked (coordinate S v)) (ranked (coordinate S w)) ≡ Greater)
 
-abbrev pub IsLeadBy : Space → Option Coordinate → WholePolynomial → ℕ → Type 0
-IsLeadBy S (Some c) P w = w ≡ number S c
-IsLeadBy S None P w = IsGreatest S P w
+abbrev pub IsLeadByUnder : JetOrder → Space → Option Coordinate → WholePolynomial → ℕ → Type 0
+IsLeadByUnder rank S (Some c) P w = w ≡ number S c
+IsLeadByUnder rank S None P w = IsGreatestUnder rank S P w
 
 -- the derivative that is the left side alone, and else the greatest one
-abbrev pub IsLead : Space → EquationRead → ℕ → Type 0
-IsLead S e w = IsLeadBy S e.lead e.diff w
+abbrev pub IsLeadUnder : JetOrder → Space → EquationRead → ℕ → Type 0
+IsLeadUnder rank S e w = IsLeadByUnder rank S e.lead e.diff w
 
+-- ---- by the order of derivatives, then the dependent variable, then the counts
+abbrev pub IsGreatest : Space → WholePolynomial → ℕ → Type 0
+IsGreatest S P w = IsGreatestUnder degree_rank S P w
+
+abbrev pub IsLeadBy : Space → Option Coordinate → WholePolynomial → ℕ → Type 0
+IsLeadBy S o P w = IsLeadByUnder degree_rank S o P w
+
+abbrev pub IsLead : Space → EquationRead → ℕ → Type 0
+IsLead S e w = IsLeadUnder degree_rank S e w
+
+-- ---- linear polynomials
 -- a number that is not 0 times the variable, and terms without it
 pub record IsLinearIn (w : ℕ) (P : WholePolynomial) : Type 0 where
   pub term : ¬ (coefficient P (single w) ≡ pos 0)

@@ -3,10 +3,11 @@ ghost use Rattle.std.specs.Prelude.{◌≡◌, ◌≤◌, IfOk, IfErr, length, m
 ghost use Rattle.std.specs.List.{AllByRecursion as Every, list_any};
 ghost use Rattle.lie_geometry.specs.SolvedEquations.{is_lead};
 ghost use Rattle.lie_system.specs.Equations.{equation_read};
+ghost use Rattle.lie_system.specs.Limits.{greatest_equation_count};
 ghost use Rattle.lie_system.specs.KeptSystems.{system_read};
 ghost use Rattle.lie_solved.specs.Causes.{failed_at};
 ghost use Rattle.lie_solved.specs.SolvedForms.{solved_equations, IsSolvedForm};
-ghost use Rattle.lie_solved.specs.Refusals.{IsRefusal, HasNoLead, IsFirstInside};
+ghost use Rattle.lie_solved.specs.Refusals.{IsSolveFormCause, HasNoLead, IsFirstInside};
 ghost use Rattle.lie_system.specs.Written.{IsWritten, AreWritten};
 ghost use Rattle.lie_solved.specs.Equations.{AreRules, HaveJets, IsNextRule, IsRefusalAt, variables_in, variables_of};
 ghost use Rattle.lie_solved.specs.Solved.{equations_of};
@@ -74,7 +75,7 @@ fn rules_of(
 ) -> Result<Vec<LeadRule>, SolveFormFail>
     requires { AreWritten space (map (equation_read space) equations.now) }
     ensures rules { IfOk result (λ rs. AreRules space (map (equation_read space) equations.now) rs.items) }
-    ensures refusal { IfErr result (IsRefusal space (map (equation_read space) equations.now)) }
+    ensures refusal { IfErr result (IsSolveFormCause space (map (equation_read space) equations.now)) }
 {
     let mut rules: Vec<LeadRule> = Vec::new(alloc);
     for (i, equation) in equations.iter().enumerate() {
@@ -112,7 +113,7 @@ fn have_lead(space: Space, rules: &[LeadRule], terms: &[(Mono, Whole)]) -> bool
 
 /// The place, counted from 1, of the first rule whose right side has the lead of one.
 fn first_inside(alloc: Global, space: Space, rules: &[LeadRule]) -> Result<Option<u32>, NoMemory>
-    requires few { length rules.now ≤ 16 }
+    requires few { length rules.now ≤ greatest_equation_count }
     requires jets { HaveJets space rules.now }
     ensures { IfOk result (λ place. MatchOption place
         (Every (HasNoLead (solved_equations space rules.now)) (solved_equations space rules.now))
@@ -131,7 +132,7 @@ fn first_inside(alloc: Global, space: Space, rules: &[LeadRule]) -> Result<Optio
 pub fn solve_form(alloc: Global, system: System) -> Result<Solved, SolveFormFail>
     ensures form { IfOk result (λ solved. IsSolvedForm system.space (system_read system).equations (equations_of solved)) }
     ensures system { IfOk result (λ solved. solved.system ≡ system) }
-    ensures refusal { IfErr result (IsRefusal system.space (system_read system).equations) }
+    ensures refusal { IfErr result (IsSolveFormCause system.space (system_read system).equations) }
 {
     let rules = rules_of(alloc, system.space, system.equations.as_slice())?;
     match first_inside(alloc, system.space, rules.as_slice())? {

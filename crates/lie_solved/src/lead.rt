@@ -4,13 +4,14 @@ ghost use Rattle.std.specs.List.{AllByRecursion as Every};
 ghost use Rattle.std.specs.Ordering.{is_gt};
 ghost use Rattle.lie_geometry.specs.Coordinates.{number, coordinates_up_to};
 ghost use Rattle.lie_ring.specs.Rankings.{degree_rank};
-ghost use Rattle.lie_jet.specs.Jets.{coordinate_of, IsJet, IsSmall};
+ghost use Rattle.lie_jet.specs.Jets.{coordinate_of, IsJet};
+ghost use Rattle.lie_system.specs.Limits.{greatest_written_order, greatest_jet_order};
 ghost use Rattle.lie_system.specs.Equations.{equation_read};
 ghost use Rattle.lie_solved.specs.Leads.{ranked, HasNoDerivative};
 ghost use Rattle.lie_system.specs.Written.{IsLow, IsWritten};
 ghost use Rattle.lie_solved.specs.Equations.{IsBest, HasLead, variables_in, variables_of};
 
-use lie_jet::{Jet, Space, jet_of};
+use lie_jet::{Jet, Space, jet_of, space_is_small};
 use lie_ring::{DegreeRank, Mono, Ranking, Whole};
 use lie_system::Equation;
 use std::cmp::Ordering;
@@ -37,7 +38,7 @@ fn greater(space: Space, jet: Jet, other: Jet) -> Jet
 
 /// The greater one of a derivative and the coordinate with a number, where that is a derivative of order 1 or more.
 fn greater_of(space: Space, best: Option<Jet>, number: u32) -> Option<Jet>
-    requires { number < coordinates_up_to space 12 }
+    requires { number < coordinates_up_to space greatest_jet_order }
     ensures { (ws : List ℕ) → IsBest space ws best → IsBest space (ws ++ number ∷ []) result }
 {
     if number < u32::from(space.p) + u32::from(space.q) {
@@ -54,7 +55,7 @@ fn greater_of(space: Space, best: Option<Jet>, number: u32) -> Option<Jet>
 
 /// The greatest one of a derivative and those of order 1 or more in a product of powers.
 fn greatest_in(space: Space, best: Option<Jet>, pairs: &[(u32, u32)]) -> Option<Jet>
-    requires { Every (λ w. w < coordinates_up_to space 12) (variables_in pairs.now) }
+    requires { Every (λ w. w < coordinates_up_to space greatest_jet_order) (variables_in pairs.now) }
     ensures { (ws : List ℕ) → IsBest space ws best → IsBest space (ws ++ variables_in pairs.now) result }
 {
     let mut best = best;
@@ -66,7 +67,7 @@ fn greatest_in(space: Space, best: Option<Jet>, pairs: &[(u32, u32)]) -> Option<
 
 /// The greatest derivative of order 1 or more in terms.
 fn greatest_of(space: Space, terms: &[(Mono, Whole)]) -> Option<Jet>
-    requires { Every (λ w. w < coordinates_up_to space 12) (variables_of terms.now) }
+    requires { Every (λ w. w < coordinates_up_to space greatest_jet_order) (variables_of terms.now) }
     ensures { IsBest space (variables_of terms.now) result }
 {
     let mut best = None;
@@ -80,7 +81,7 @@ fn greatest_of(space: Space, terms: &[(Mono, Whole)]) -> Option<Jet>
 fn within(space: Space, jet: &Jet) -> Jet
     requires { IsLow space (coordinate_of space jet.now) }
     ensures same { coordinate_of space result ≡ coordinate_of space jet.now }
-    ensures jet { IsJet space 6 result }
+    ensures jet { IsJet space greatest_written_order result }
 {
     let p = usize::from(space.p);
     let mut counts = [0; 4];
@@ -91,20 +92,13 @@ fn within(space: Space, jet: &Jet) -> Jet
     }
 }
 
-/// There are 1 to 4 variables of each kind: what every space tells.
-fn known_small(space: Space)
-    ensures { IsSmall space }
-{
-    let _independent = &space.p;
-}
-
 /// The lead of an equation with these terms; None exactly where it has no derivative of order 1 or more.
 pub fn lead_of(space: Space, equation: &Equation, terms: &[(Mono, Whole)]) -> Option<Jet>
     requires written { IsWritten space (equation_read space equation.now) }
     requires terms { equation.now.diff.list ≡ terms.now }
     ensures { MatchOption result (HasNoDerivative space equation.now.diff) (HasLead space (equation_read space equation.now)) }
 {
-    known_small(space);
+    space_is_small(space);
     match greatest_of(space, terms) {
         None => None,
         Some(greatest) => match &equation.lead {

@@ -8,8 +8,8 @@ ghost use Rattle.lie_solved.specs.Equations.{turned, rest_of, IsLinearWith};
 
 use lie_bytes::NoMemory;
 use lie_jet::JetPoly;
-use lie_poly::Flat;
-use lie_ring::{Mono, PolyFail, Polynomial, Ring, Whole};
+use lie_ring::{Mono, Ring, Whole};
+use lie_system::sum_within_limits;
 use std::alloc::Global;
 
 /// Whether a monomial is a variable.
@@ -94,11 +94,7 @@ pub fn rest_of(
 {
     let rest = terms_without(alloc, terms, number, negative)?;
     known_within_limits(poly);
-    match Flat::of_terms(alloc, rest.as_slice()) {
-        Ok(sum) => Ok(sum),
-        Err(PolyFail::NoMemory) => Err(NoMemory),
-        Err(PolyFail::Past(_)) => unreachable!(),
-    }
+    sum_within_limits(alloc, rest.as_slice())
 }
 
 /// Every polynomial is within the limits: what its length tells.

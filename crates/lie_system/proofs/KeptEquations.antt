@@ -1,9 +1,8 @@
 -- Equations as they are kept and as lists see them.
-use Rattle.std.specs.Prelude.{ℕ, ◌≡◌, ◌≤◌, List, [], ◌∷◌, length, take, map, option_map, Option, Some, None, IfSome}
-use Rattle.std.proofs.Common.{refl, sym, subst, arith}
+use Rattle.std.specs.Prelude.{List, [], ◌∷◌, map, option_map, Option, Some, None, IfSome}
+use Rattle.std.proofs.Common.{arith}
 use Rattle.std.specs.List.{AllByRecursion as Every}
 use Rattle.std.proofs.lemmas.List.{length-take-le, length-map}
-use Rattle.lie_math.specs.Counts.{order}
 use Rattle.lie_geometry.specs.Coordinates.{Space}
 use Rattle.lie_jet.specs.Jets.{coordinate_of, IsJet}
 use Rattle.lie_jet.specs.declared.jet.Jet.{Jet}

@@ -1,3 +1,4 @@
 pub mod Entries
 pub mod LeadNumbers
 pub mod KeptEquations
+pub mod DerivativesAlone

@@ -1,3 +1,4 @@
+pub mod Limits
 pub mod Equations
 pub mod LeadsAlone
 pub mod Systems

@@ -10,4 +10,4 @@ use Rattle.lie_canonical.proofs.canonical_text.push_right_side.Goals as goal
 pub right_side-requires : goal.right_side-requires
 right_side-requires c =
     subst (λ (m : Monomial). Every (Leaves m) c.args.diff.now.list) (sym (c.variable-variable.ensures ∙ ap single c.jet_number.ensures.number))
-    (leaves (single (number c.args.space (coordinate_of c.args.space c.args.lead.now))) c.args.diff.now c.requires.right.fits)
+    (leaves (single (number c.args.printer.now.space (coordinate_of c.args.printer.now.space c.args.lead.now))) c.args.diff.now c.requires.right.fits)

@@ -17,29 +17,29 @@ field_of-requires-clause-small c = read_small c.bytes.result.now c.args.bytes.no
 pub field_of-requires-clause-few : goal.field_of-requires-clause-few
 field_of-requires-clause-few c = read_few c.bytes.result.now c.args.bytes.now c.in-Ok.terms.list.items c.in-Ok.ensures
 
-pub returns-in-Ok-field_of-clause-found : goal.returns-in-Ok-field_of-clause-found
-returns-in-Ok-field_of-clause-found c =
-    found_field c.args.system.now.space c.args.system.now.names c.args.bytes.now c.in-Ok.terms.list.items c.in-Ok-field_of.field
-    (subst (λ (names : List ℕ). read_terms names c.args.bytes.now ≡ Ok c.in-Ok.terms.list.items) c.bytes.ensures c.in-Ok.ensures) c.in-Ok-field_of.ensures
+pub returns-in_ok-field_of-in-Ok-clause-found : goal.returns-in_ok-field_of-in-Ok-clause-found
+returns-in_ok-field_of-in-Ok-clause-found c =
+    found_field c.args.system.now.space c.args.system.now.names c.args.bytes.now c.in-Ok.terms.list.items c.in_ok-field_of-in-Ok.field-0
+    (subst (λ (names : List ℕ). read_terms names c.args.bytes.now ≡ Ok c.in-Ok.terms.list.items) c.bytes.ensures c.in-Ok.ensures) c.in_ok-field_of-in-Ok.ensures
 
-pub returns-in-Ok-field_of-clause-only : goal.returns-in-Ok-field_of-clause-only
-returns-in-Ok-field_of-clause-only c = λ V text short.
-    ap Ok (only_field c.args.system.now.space c.args.system.now.names c.args.bytes.now c.in-Ok.terms.list.items c.in-Ok-field_of.field V
-    (subst (λ (names : List ℕ). read_terms names c.args.bytes.now ≡ Ok c.in-Ok.terms.list.items) c.bytes.ensures c.in-Ok.ensures) c.in-Ok-field_of.ensures text short)
+pub returns-in_ok-field_of-in-Ok-clause-only : goal.returns-in_ok-field_of-in-Ok-clause-only
+returns-in_ok-field_of-in-Ok-clause-only c = λ V text short.
+    ap Ok (only_field c.args.system.now.space c.args.system.now.names c.args.bytes.now c.in-Ok.terms.list.items c.in_ok-field_of-in-Ok.field-0 V
+    (subst (λ (names : List ℕ). read_terms names c.args.bytes.now ≡ Ok c.in-Ok.terms.list.items) c.bytes.ensures c.in-Ok.ensures) c.in_ok-field_of-in-Ok.ensures text short)
 
-pub returns-in-Ok-field_of-clause-stops : goal.returns-in-Ok-field_of-clause-stops
-returns-in-Ok-field_of-clause-stops c = λ f fault.
+pub returns-in_ok-field_of-in-Ok-clause-stops : goal.returns-in_ok-field_of-in-Ok-clause-stops
+returns-in_ok-field_of-in-Ok-clause-stops c = λ f fault.
     no_fault c.args.system.now.names c.args.bytes.now c.in-Ok.terms.list.items f
     (subst (λ (names : List ℕ). read_terms names c.args.bytes.now ≡ Ok c.in-Ok.terms.list.items) c.bytes.ensures c.in-Ok.ensures) fault
 
-pub returns-clause-only : goal.returns-clause-only
-returns-clause-only c =
+pub returns-in-Err-clause-only : goal.returns-in-Err-clause-only
+returns-in-Err-clause-only c =
     fails_only (λ (V : VectorField). V) c.args.system.now.space c.args.system.now.names c.args.bytes.now c.in-Err.fail (subst (λ (names : List ℕ). ReadFails c.in-Err.fail (read_terms names c.args.bytes.now)) c.bytes.ensures c.in-Err.ensures)
 
-pub returns-clause-fault : goal.returns-clause-fault
-returns-clause-fault c =
+pub returns-in-Err-clause-fault : goal.returns-in-Err-clause-fault
+returns-in-Err-clause-fault c =
     fails_told (λ (V : VectorField). V) c.args.system.now.space c.args.system.now.names c.args.bytes.now c.in-Err.fail (subst (λ (names : List ℕ). ReadFails c.in-Err.fail (read_terms names c.args.bytes.now)) c.bytes.ensures c.in-Err.ensures)
 
-pub returns-clause-stops : goal.returns-clause-stops
-returns-clause-stops c =
+pub returns-in-Err-clause-stops : goal.returns-in-Err-clause-stops
+returns-in-Err-clause-stops c =
     fails_stops (λ (V : VectorField). V) c.args.system.now.space c.args.system.now.names c.args.bytes.now c.in-Err.fail (subst (λ (names : List ℕ). ReadFails c.in-Err.fail (read_terms names c.args.bytes.now)) c.bytes.ensures c.in-Err.ensures)

@@ -10,5 +10,5 @@ unwrap_cond : (b : Bool) (s : ℕ) (o : Option ℕ) → unwrap_or (cond b (Some 
 unwrap_cond true s o = refl
 unwrap_cond false s o = refl
 
-pub returns-in-Ok : goal.returns-in-Ok
-returns-in-Ok c other = ap (λ o. unwrap_or o 0) (c.in-Ok.ensures.updates.0 other) ∙ unwrap_cond (is_eq (key_cmp c.args.key other)) c.args.size (get key_cmp c.args.sizes other)
+pub returns : goal.returns
+returns c other = ap (λ o. unwrap_or o 0) (c.in_ok-insert.ensures.updates.0 other) ∙ unwrap_cond (is_eq (key_cmp c.args.key other)) c.args.size (get key_cmp c.args.sizes other)

@@ -7,7 +7,7 @@ use Rattle.lie_solved.proofs.lead.lead_of.Goals as goal
 
 pub greatest_of-requires : goal.greatest_of-requires
 greatest_of-requires c =
-    variables_low c.args.space (equation_read c.args.space c.args.equation.now) c.requires.written c.known_small.ensures c.args.terms.now c.requires.terms
+    variables_low c.args.space (equation_read c.args.space c.args.equation.now) c.requires.written c.space_is_small.ensures c.args.terms.now c.requires.terms
 
 pub returns-in-None : goal.returns-in-None
 returns-in-None c = none_is c.args.space c.args.equation.now.diff c.args.terms.now c.requires.terms c.in-None.ensures

@@ -5,7 +5,7 @@ use Rattle.lie_math.specs.Polynomial.{polynomial_of}
 use Rattle.lie_poly.specs.Failures.{IsStarved}
 use Rattle.lie_ring.specs.Causes.{IsCause}
 use Rattle.lie_jet.proofs.Absolutes.{within_starved}
-use Rattle.lie_scan.proofs.within_limits.sum_within_limits.Goals as goal
+use Rattle.lie_system.proofs.within_limits.sum_within_limits.Goals as goal
 use Rattle.lie_jet.proofs.TotalParts.{entries_same}
 
 pub unreachable-requires : goal.unreachable-requires

@@ -2,7 +2,7 @@ use Rattle.std.proofs.Common.{arith, refl, ap, sym, ◌∙◌, ◌≡◌, ◌+�
 use Rattle.std.proofs.lemmas.List.{at_drop_more}
 use Rattle.lie_scan.specs.Names.{counts_from, one_more, place_of}
 use Rattle.lie_scan.proofs.CountSteps.{counts_none, counts_step, step_within, step_fits}
-use Rattle.lie_scan.proofs.coordinate.counts_of.Goals as goal
+use Rattle.lie_scan.proofs.coordinate.letter_counts.Goals as goal
 
 pub loop-letter-init : goal.loop-letter-init
 loop-letter-init c = record { same = refl; counts = counts_none c.args.independent.now }

@@ -1,7 +1,7 @@
 use Rattle.std.proofs.Common.{◌≡◌, drop, ◌∷◌, []}
 use Rattle.lie_scan.specs.Names.{counts_from}
 use Rattle.lie_scan.specs.Variables.{AreCounts}
-use Rattle.lie_scan.proofs.coordinate.counts_of.Given as goal
+use Rattle.lie_scan.proofs.coordinate.letter_counts.Given as goal
 
 abbrev pub invariant-loop-letter : goal.invariant-loop-letter
 invariant-loop-letter l = record {

@@ -1,6 +1,0 @@
-use Rattle.std.proofs.Common.{◌≡◌, ◌++◌, ◌∷◌, [], take}
-use Rattle.std.specs.List.{flat_map}
-use Rattle.lie_canonical.proofs.canonical_text.push_names.Given as goal
-
-abbrev pub invariant-loop-name : goal.invariant-loop-name
-invariant-loop-name l = l.text.items ≡ l.fn.text.items ++ (l.keyword ++ flat_map (λ n. 32 ∷ n ∷ []) (take l.name-index l.names))

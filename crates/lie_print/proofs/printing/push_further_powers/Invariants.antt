@@ -1,7 +1,0 @@
-use Rattle.std.proofs.Common.{◌≡◌, ◌++◌, ◌∷◌, map, take}
-use Rattle.std.specs.List.{flat_map}
-use Rattle.lie_print.specs.Printing.{power_text}
-use Rattle.lie_print.proofs.printing.push_further_powers.Given as goal
-
-abbrev pub invariant-loop-power : goal.invariant-loop-power
-invariant-loop-power l = l.text.items ≡ l.fn.text.items ++ flat_map (λ g. 42 ∷ g) (map (power_text l.space l.names) (take l.power-index l.powers))
