@@ -13,6 +13,8 @@ use Rattle.lie_file.proofs.FileFaults.{is-fault}
 use Rattle.lie_solved.specs.SolvedForms.{IsSolvedForm}
 use Rattle.lie_solved.specs.Refusals.{IsRefused}
 use Rattle.lie_solved.specs.declared.solved.NotKind.{NotKind}
+use Rattle.lie_ring.specs.Rankings.{degree_rank}
+use Rattle.lie_ring.specs.DegreeRanking.{degree_rank_is_ranking}
 use Rattle.lie_solved.proofs.OneForm.{solved_form_is_one, refused_has_no_form}
 use Rattle.lie_solved.proofs.OneRefusal.{refusal_is_one}
 use Rattle.lie_scan.specs.declared.fault.ReadFail.TheVariants as reads
@@ -39,7 +41,7 @@ file_has_no_fault bytes s f is short fault = let e : ◌≡◌ {A = Result Syste
 solved_not_unsolved : (bytes : List ℕ) (s : SystemRead) (rs : List SolvedEquation) (kind : NotKind) (k : ℕ) → IsSolvedFile bytes s rs → IsUnsolvedFile bytes kind k → ⊥
 solved_not_unsolved bytes s rs kind k h u =
     let same : s ≡ u.system = one_system bytes s u.system h.file u.file in
-    refused_has_no_form u.system.space (file_has_space bytes u.system u.file) u.system.equations rs (subst (λ (v : SystemRead). IsSolvedForm v.space v.equations rs) same h.form) kind k u.refused
+    refused_has_no_form degree_rank degree_rank_is_ranking u.system.space (file_has_space bytes u.system u.file) u.system.equations rs (subst (λ (v : SystemRead). IsSolvedForm v.space v.equations rs) same h.form) kind k u.refused
 
 pub solved_not_refused : (bytes : List ℕ) (s : SystemRead) (rs : List SolvedEquation) (refusal : Refusal) → IsSolvedFile bytes s rs → IsFileRefusal bytes refusal → ⊥
 solved_not_refused bytes s rs refusal h (bad_file b fault) = file_has_no_fault bytes s (reads.Bad b) h.file h.short fault
@@ -48,7 +50,7 @@ solved_not_refused bytes s rs refusal h (unsolved j l u) = solved_not_unsolved b
 one_unsolved : (bytes : List ℕ) (i j : NotKind) (k l : ℕ) → IsUnsolvedFile bytes i k → IsUnsolvedFile bytes j l → Not i k ≡ Not j l
 one_unsolved bytes i j k l h g =
     let same : g.system ≡ h.system = one_system bytes g.system h.system g.file h.file in
-    let one = refusal_is_one h.system.space (file_has_space bytes h.system h.file) h.system.equations i j k l h.refused (subst (λ (v : SystemRead). IsRefused v.space v.equations j l) same g.refused) in
+    let one = refusal_is_one degree_rank degree_rank_is_ranking h.system.space (file_has_space bytes h.system h.file) h.system.equations i j k l h.refused (subst (λ (v : SystemRead). IsRefused v.space v.equations j l) same g.refused) in
     ap₂ Not one.0 one.1
 
 bad_of : ReadFail → Refusal → Refusal
@@ -77,7 +79,7 @@ same_system bytes s t rs qs h g = one_system bytes s t h.file g.file
 
 pub same_rules : (bytes : List ℕ) (s t : SystemRead) (rs qs : List SolvedEquation) → IsSolvedFile bytes s rs → IsSolvedFile bytes t qs → rs ≡ qs
 same_rules bytes s t rs qs h g =
-    solved_form_is_one t.space (file_has_space bytes t g.file) t.equations rs qs (subst (λ (v : SystemRead). IsSolvedForm v.space v.equations rs) (same_system bytes s t rs qs h g) h.form) g.form
+    solved_form_is_one degree_rank degree_rank_is_ranking t.space (file_has_space bytes t g.file) t.equations rs qs (subst (λ (v : SystemRead). IsSolvedForm v.space v.equations rs) (same_system bytes s t rs qs h g) h.form) g.form
 
 -- what is so of them is so of any that the file has
 pub moved : (bytes : List ℕ) (s t : SystemRead) (rs qs : List SolvedEquation) (P : SystemRead → List SolvedEquation → Type 0) → IsSolvedFile bytes s rs → IsSolvedFile bytes t qs → P s rs → P t qs

@@ -23,12 +23,13 @@ use Rattle.lie_app.specs.declared.outcome.Outcome.TheVariants.{Done, Refused}
 use Rattle.lie_app.specs.declared.outcome.Refusal.{Refusal}
 use Rattle.lie_app.specs.declared.outcome.Refusal.TheVariants.{Bad, Past}
 use Rattle.lie_app.specs.SolvedFile.{IsSolvedFile, IsFileRefusal}
+use Rattle.lie_scan.specs.Limits.{greatest_text_length}
 
 -- ---- the field
 -- the bytes are the text of a field of the system
 pub record IsField (s : SystemRead) (bytes : List ℕ) (V : VectorField) : Type 0 where
   pub spelled : IsFieldText s.space s.names bytes V
-  pub short : length bytes ≤ 65536
+  pub short : length bytes ≤ greatest_text_length
 
 -- the bytes are the text of one field of the system at most, or they have one fault at most, and not both
 pub record HasOneField (s : SystemRead) (bytes : List ℕ) : Type 0 where

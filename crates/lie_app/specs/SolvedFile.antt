@@ -12,18 +12,19 @@ use Rattle.lie_solved.specs.declared.solved.NotKind.{NotKind}
 use Rattle.lie_app.specs.declared.status.Source.TheVariants.{File}
 use Rattle.lie_app.specs.declared.outcome.Refusal.{Refusal}
 use Rattle.lie_app.specs.declared.outcome.Refusal.TheVariants.{Bad, Not}
+use Rattle.lie_scan.specs.Limits.{greatest_text_length}
 
 -- the bytes are the file of a system, with its solved form
 pub record IsSolvedFile (bytes : List ℕ) (s : SystemRead) (rs : List SolvedEquation) : Type 0 where
   pub file : IsFile bytes s
-  pub short : length bytes ≤ 65536
+  pub short : length bytes ≤ greatest_text_length
   pub form : IsSolvedForm s.space s.equations rs
 
 -- the bytes are the file of a system that has no solved form, for this cause in this equation
 pub record IsUnsolvedFile (bytes : List ℕ) (kind : NotKind) (k : ℕ) : Type 0 where
   pub system : SystemRead
   pub file : IsFile bytes system
-  pub short : length bytes ≤ 65536
+  pub short : length bytes ≤ greatest_text_length
   pub refused : refusals.IsRefused system.space system.equations kind k
 
 -- why the bytes are no file with a solved form: they have this first fault, or their system has no solved form

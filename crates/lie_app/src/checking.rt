@@ -53,17 +53,12 @@ fn line_of(alloc: Global, solved: &Solved, field: &Field) -> Result<Vec<u8>, NoT
         → IsCheckDue bytes field_text due → IsMade due result }
 {
     match check(alloc, solved, field) {
-        Ok(verdict) => {
-            match verdict_line(
-                alloc,
-                solved.system.space,
-                solved.system.names.bytes(),
-                &verdict,
-            ) {
-                Ok(text) => Ok(text),
-                Err(NoMemory) => Err(NoText::NoMemory),
-            }
-        }
+        Ok(verdict) => Ok(verdict_line(
+            alloc,
+            solved.system.space,
+            solved.system.names.bytes(),
+            &verdict,
+        )?),
         Err(fail) => Err(not_done(0, fail)),
     }
 }

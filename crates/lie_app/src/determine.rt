@@ -10,7 +10,6 @@ ghost use Rattle.lie_app.specs.Work.{IsMade};
 
 use crate::causes::not_done;
 use crate::outcome::NoText;
-use lie_bytes::NoMemory;
 use lie_determining::determining;
 use lie_report::report;
 use lie_solved::Solved;
@@ -29,10 +28,7 @@ pub fn report_of(alloc: Global, solved: &Solved) -> Result<Vec<u8>, NoText>
         → IsDetermineDue bytes due → IsMade due result }
 {
     match determining(alloc, solved) {
-        Ok(system) => match report(alloc, solved.system.names.bytes(), &system) {
-            Ok(text) => Ok(text),
-            Err(NoMemory) => Err(NoText::NoMemory),
-        },
+        Ok(system) => Ok(report(alloc, solved.system.names.bytes(), &system)?),
         Err(fail) => Err(not_done(0, fail)),
     }
 }

@@ -5,27 +5,15 @@ mod causes;
 mod checking;
 mod determine;
 pub mod laws;
-mod line;
 mod on_file;
 mod outcome;
 mod solved_file;
 mod status;
+mod status_line;
 mod top;
 mod words;
 mod work;
 
 pub use status::{Source, Status, code};
+pub use status_line::line;
 pub use top::run;
-
-#[cfg(test)]
-mod example_files;
-#[cfg(test)]
-mod example_reports;
-#[cfg(test)]
-mod examples_tests;
-#[cfg(test)]
-mod path_tests;
-#[cfg(test)]
-mod status_tests;
-#[cfg(test)]
-mod tests;

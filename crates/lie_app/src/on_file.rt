@@ -14,11 +14,8 @@ use crate::status::Source;
 use crate::words::FileCommand;
 use crate::work::text_of;
 use lie_outer::{FileFail, Files, Sink};
-use lie_scan::fault::{BadFile, BadKind};
+use lie_scan::fault::{BadFile, BadKind, MAX_BYTES};
 use std::alloc::Global;
-
-/// A file has no more bytes than this.
-const MOST_BYTES: usize = 65_536;
 
 // The fault of a file that has more bytes.
 const TOO_LONG: BadFile = BadFile {
@@ -57,7 +54,7 @@ pub fn on_file<F: Files, O: Sink>(
     ensures out { LeavesOut O.taken O.fault_count O.starved_count out.old out.new
         (IsFileOutput (outside (F.held files.old)) path.now (file_in_words (λ w. w.now) command.now)) result }
 {
-    match files.read(alloc, path, MOST_BYTES) {
+    match files.read(alloc, path, MAX_BYTES) {
         Ok(bytes) => answer(alloc, command, bytes.bytes(), out),
         Err(FileFail::Missing) => Outcome::Refused(Refusal::Missing),
         Err(FileFail::TooLong) => Outcome::Refused(Refusal::Bad(Source::File, TOO_LONG)),

@@ -1,5 +1,9 @@
 // How a call went, as it is told inside.
+ghost use Rattle.std.specs.Prelude.{◌≡◌};
+ghost use Rattle.lie_app.specs.declared.outcome.NoText.TheVariants as texts;
+
 use crate::status::Source;
+use lie_bytes::NoMemory;
 use lie_ring::PastKind;
 use lie_scan::fault::BadFile;
 use lie_solved::NotKind;
@@ -53,4 +57,12 @@ pub enum NoText {
     Refused(Refusal),
     /// There was no memory.
     NoMemory,
+}
+
+impl From<NoMemory> for NoText {
+    ghost from_gives = { λ _ none. none ≡ texts.NoMemory };
+
+    fn from(_fail: NoMemory) -> NoText {
+        NoText::NoMemory
+    }
 }

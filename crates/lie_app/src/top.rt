@@ -8,10 +8,10 @@ ghost use Rattle.lie_app.specs.Outside.{outside};
 ghost use Rattle.lie_app.specs.Run.{IsOutputOf, IsDue, HasCommandCause, IsOutput, HasCause, IsComplete, LeavesOut, LeavesErr};
 ghost use Rattle.lie_app.specs.Work.{IsEnded};
 
-use crate::line::line;
 use crate::on_file::on_file;
 use crate::outcome::{Failure, Outcome, Refusal};
 use crate::status::{Status, status_of};
+use crate::status_line::line;
 use crate::words::{Command, command_of};
 use lie_outer::{Files, Sink};
 use std::alloc::{AllocError, Global};

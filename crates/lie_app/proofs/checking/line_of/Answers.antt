@@ -9,11 +9,11 @@ use Rattle.lie_app.specs.Work.{IsAnswered}
 use Rattle.lie_app.proofs.DueChecks.{check_refusal, check_done, check_failed, yes_means_invariant}
 use Rattle.lie_app.proofs.checking.line_of.Goals as goal
 
-pub returns-in-Ok-verdict_line-clause-text : goal.returns-in-Ok-verdict_line-clause-text
-returns-in-Ok-verdict_line-clause-text c = λ bytes field_text h is.
+pub returns-in_ok-verdict_line-in-Ok-clause-text : goal.returns-in_ok-verdict_line-in-Ok-clause-text
+returns-in_ok-verdict_line-in-Ok-clause-text c = λ bytes field_text h is.
     let S = c.args.solved.now.system.space in
     let rs = solved_equations S c.args.solved.now.rules.items in
-    let printed = c.in-Ok-verdict_line.ensures ∙ ap (λ names. verdict_line S names c.in-Ok.verdict) c.bytes.ensures in
+    let printed = c.in_ok-verdict_line-in-Ok.ensures ∙ ap (λ names. verdict_line S names c.in-Ok.verdict) c.bytes.ensures in
     let means = yes_means_invariant S c.args.solved.now.system.names rs (component c.args.field.now) c.in-Ok.verdict c.in-Ok.ensures.verdict in
     record {
       system = system_read c.args.solved.now.system;
@@ -28,14 +28,14 @@ returns-in-Ok-verdict_line-clause-text c = λ bytes field_text h is.
       meaning = (λ e. means.0 (sym printed ∙ e), λ invariant. printed ∙ means.1 invariant);
     }
 
-pub returns-clause-cause : goal.returns-clause-cause
-returns-clause-cause c = λ bytes field h is. subst (IsRefusalOr (IsCheckRefusal bytes field)) (sym c.not_done.ensures)
+pub returns-in-Err-clause-cause : goal.returns-in-Err-clause-cause
+returns-in-Err-clause-cause c = λ bytes field h is. subst (IsRefusalOr (IsCheckRefusal bytes field)) (sym c.not_done.ensures)
     (check_refusal c.in-Err.fail (system_read c.args.solved.now.system) (solved_equations c.args.solved.now.system.space c.args.solved.now.rules.items) c.args.field.now c.in-Err.ensures.past bytes field h is)
 
-pub returns-in-Ok-verdict_line-clause-due : goal.returns-in-Ok-verdict_line-clause-due
-returns-in-Ok-verdict_line-clause-due c = λ bytes field due h is one d.
+pub returns-in_ok-verdict_line-in-Ok-clause-due : goal.returns-in_ok-verdict_line-in-Ok-clause-due
+returns-in_ok-verdict_line-in-Ok-clause-due c = λ bytes field due h is one d.
     check_done bytes field (system_read c.args.solved.now.system) (solved_equations c.args.solved.now.system.space c.args.solved.now.rules.items) c.args.field.now due h is one c.in-Ok.ensures.fits d
 
-pub returns-clause-due : goal.returns-clause-due
-returns-clause-due c = λ bytes field due h is one d. subst (λ none. IsAnswered due (untold none)) (sym c.not_done.ensures)
+pub returns-in-Err-clause-due : goal.returns-in-Err-clause-due
+returns-in-Err-clause-due c = λ bytes field due h is one d. subst (λ none. IsAnswered due (untold none)) (sym c.not_done.ensures)
     (check_failed bytes field (system_read c.args.solved.now.system) (solved_equations c.args.solved.now.system.space c.args.solved.now.rules.items) c.args.field.now c.in-Err.fail due h is one c.in-Err.ensures.past d)

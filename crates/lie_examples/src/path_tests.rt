@@ -1,6 +1,6 @@
 // The whole path of both commands over fakes, with ample memory and with texts from a model that was written apart.
-use crate::tests::check;
-use crate::{Source, Status};
+use crate::outcome_tests::check;
+use lie_app::{Source, Status};
 use lie_ring::PastKind;
 use lie_scan::fault::{BadFile, BadKind};
 use std::alloc::Global;

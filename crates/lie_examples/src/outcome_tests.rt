@@ -1,5 +1,5 @@
 // The top call over fakes, with ample memory: the text, the line and the status of each outcome.
-use super::*;
+use lie_app::{Source, Status, run};
 use lie_outer::{Bytes, MemoryFiles, MemorySink, Text};
 use lie_scan::fault::{BadFile, BadKind};
 use lie_solved::NotKind;

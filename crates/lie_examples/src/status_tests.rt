@@ -1,6 +1,5 @@
 // The codes and the lines of statuses.
-use crate::line::line;
-use crate::{Source, Status, code};
+use lie_app::{Source, Status, code, line};
 use lie_ring::PastKind;
 use lie_scan::fault::{BadFile, BadKind};
 use lie_solved::NotKind;
