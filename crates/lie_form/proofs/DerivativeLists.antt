@@ -1,7 +1,9 @@
 -- Derivatives of unknowns as code, and lists of them with coefficients.
 use Rattle.std.specs.Prelude.{◌≡◌, ℕ, zero, suc, true, false, ℤ, List, [], ◌∷◌, ◌++◌, length, take, drop, OnOk, IfErr, T, ◌≤◌, ◌<◌}
 use Rattle.std.specs.List.{AllByRecursion as Every}
-use Rattle.std.proofs.Common.{Result, Ok, Err, refl, sym, ap, ap₂, subst, ◌∙◌, arith, get_or, Equal, Greater, Ordering, Less, is_lt}
+use Rattle.std.proofs.Common.{Result, Ok, Err, refl, sym, ap, ap₂, subst, ◌∙◌, arith, get_or, Equal, Greater, Ordering, Less, is_lt, is_gt, true≢false}
+use Rattle.std.proofs.lemmas.List.{length-map}
+use Rattle.std.specs.List.Sorted.{IsPartitionedBy}
 use Rattle.std.specs.FinMap.Entries.{by_order}
 use Rattle.lie_math.specs.Counts.{Derivative, derivative_cmp}
 use Rattle.lie_math.specs.LinearForm.{forms, ◌+ᶠ◌, form_term}
@@ -58,6 +60,11 @@ below_at x [] i e b h q = absurd (omega arith)
 below_at x (y ∷ ys) zero e b h q = subst (λ (z : Derivative × WholePolynomial). derivative_cmp x z.0 ≡ Less) (sym q) (less_of _ (first (is_lt (derivative_cmp x y.0)) (below_all derivative_cmp forms.values x ys) b))
 below_at x (y ∷ ys) (suc i) e b h q = below_at x ys i e (second (is_lt (derivative_cmp x y.0)) (below_all derivative_cmp forms.values x ys) b) (omega arith) q
 
+greater_of : (r : Ordering) → is_gt r ≡ true → r ≡ Greater
+greater_of Less h = absurd (true≢false (sym h))
+greater_of Equal h = absurd (true≢false (sym h))
+greater_of Greater h = refl
+
 behind : (d e y : Derivative) → derivative_cmp d e ≡ Greater → derivative_cmp y e ≡ Less → derivative_cmp d y ≡ Greater
 behind d e y r l =
     let o = derivative_cmp_total in
@@ -67,23 +74,60 @@ module _ (d : Derivative) (a : WholePolynomial) where
   past_first : (y : Derivative × WholePolynomial) (ys : List (Derivative × WholePolynomial)) → derivative_cmp d y.0 ≡ Greater → add_at derivative_cmp forms.values d a (y ∷ ys) ≡ y ∷ add_at derivative_cmp forms.values d a ys
   past_first y ys r = ap (λ o. by_order o (put_new derivative_cmp forms.values d a (y ∷ ys)) (put_new derivative_cmp forms.values d (forms.values.adder.plus a y.1) ys) (y ∷ add_at derivative_cmp forms.values d a ys)) r
 
-  pub goes_behind : (es : List (Derivative × WholePolynomial)) (i : ℕ) (e : Derivative × WholePolynomial) → IsCanonical forms es → i < length es → e ≡ get_or es i e → derivative_cmp d e.0 ≡ Greater → GoesTo d a es (suc i)
-  goes_behind [] i e c h q r = absurd (omega arith)
-  goes_behind (y ∷ ys) zero e c h q r =
-      past_first y ys (subst (λ (z : Derivative × WholePolynomial). derivative_cmp d z.0 ≡ Greater) q r)
-      ∙ sym (ap₂ (λ (xs : List (Derivative × WholePolynomial)) (zs : List (Derivative × WholePolynomial)). y ∷ (xs ++ add_at derivative_cmp forms.values d a zs)) (none_taken ys) (none_dropped ys))
-  goes_behind (y ∷ ys) (suc i) e c h q r =
-      past_first y ys (behind d e.0 y.0 r (below_at y.0 ys i e (canonical_below forms y ys c) (omega arith) q))
-      ∙ ap (λ l. y ∷ l) (goes_behind ys i e (canonical_tail forms y ys c) (omega arith) q r)
+  -- a derivative that comes behind the first i of a list goes to the i-th place or behind it
+  pub goes_to_point : (ts : List (Der × WholePolynomial)) (i : ℕ) → i ≤ length ts
+      → ((k : ℕ) (t : Der × WholePolynomial) → k < i → is_gt (derivative_cmp d (derivative_of (get_or ts k t).0)) ≡ true)
+      → GoesTo d a (derivative_terms ts) i
+  goes_to_point ts zero le h =
+      sym (ap₂ (λ (xs : List (Derivative × WholePolynomial)) (zs : List (Derivative × WholePolynomial)).
+      xs ++ add_at derivative_cmp forms.values d a zs) (none_taken (derivative_terms ts)) (none_dropped (derivative_terms ts)))
+  goes_to_point [] (suc i) le h = absurd (omega arith)
+  goes_to_point (y ∷ ts) (suc i) le h =
+      past_first (derivative_of y.0, y.1) (derivative_terms ts) (greater_of _ (h 0 y (omega arith)))
+      ∙ ap (λ l. (derivative_of y.0, y.1) ∷ l) (goes_to_point ts i (omega arith) (λ k t g. h (suc k) t (next k g)))
+    where
+      next : (k : ℕ) → k < i → suc k < suc i
+      next k g = omega arith
+
+-- and no further, where it comes behind none from there on
+pub stops_at_point : (d : Derivative) (ts : List (Der × WholePolynomial)) (i : ℕ)
+    → ((k : ℕ) (t : Der × WholePolynomial) → i ≤ k → k < length ts → is_gt (derivative_cmp d (derivative_of (get_or ts k t).0)) ≡ false)
+    → GoesNoFurther d (drop i (derivative_terms ts))
+stops_at_point d [] zero h = tt
+stops_at_point d [] (suc i) h = tt
+stops_at_point d (y ∷ ts) zero h = λ q. true≢false (sym (ap is_gt q) ∙ h 0 y (omega arith) (omega arith))
+stops_at_point d (y ∷ ts) (suc i) h = stops_at_point d ts i (λ k t l g. h (suc k) t (later k l) (less k g))
+  where
+    later : (k : ℕ) → i ≤ k → suc i ≤ suc k
+    later k l = omega arith
+
+    less : (k : ℕ) → k < length ts → suc k < length (y ∷ ts)
+    less k g = omega arith
+
+-- those behind which a derivative comes stand first
+got_again : {Y : Type 0} (ys : List Y) (i : ℕ) (e : Y) → get_or ys i e ≡ get_or ys i (get_or ys i e)
+got_again [] i e = refl
+got_again (y ∷ ys) zero e = refl
+got_again (y ∷ ys) (suc i) e = got_again ys i e
+
+pub lesser_stand_first : (d : Derivative) (ts : List (Der × WholePolynomial)) → IsCanonical forms (derivative_terms ts)
+    → IsPartitionedBy (λ (t : Der × WholePolynomial). is_gt (derivative_cmp d (derivative_of t.0))) ts
+lesser_stand_first d [] c i j e le lt h = absurd (omega arith)
+lesser_stand_first d (y ∷ ts) c zero zero e le lt h = h
+lesser_stand_first d (y ∷ ts) c zero (suc j) e le lt h =
+    let f : Der × WholePolynomial → Derivative × WholePolynomial = λ t. (derivative_of t.0, t.1) in
+    ap is_gt (behind d (derivative_of (get_or ts j e).0) (derivative_of y.0) (greater_of _ h)
+    (below_at (derivative_of y.0) (derivative_terms ts) j (f (get_or ts j e)) (canonical_below forms (f y) (derivative_terms ts) c)
+    (omega (arith, length-map ts f)) (get_map f ts j (get_or ts j e) (got_again ts j e))))
+lesser_stand_first d (y ∷ ts) c (suc i) zero e le lt h = absurd (omega arith)
+lesser_stand_first d (y ∷ ts) c (suc i) (suc j) e le lt h =
+    lesser_stand_first d ts (canonical_tail forms (derivative_of y.0, y.1) (derivative_terms ts) c) i j e (omega arith) (omega arith) h
 
 pub at_end : (d : Derivative) (es : List (Derivative × WholePolynomial)) (n : ℕ) → length es ≤ n → GoesNoFurther d (drop n es)
 at_end d [] zero h = tt
 at_end d [] (suc n) h = tt
 at_end d (e ∷ es) zero h = absurd (omega arith)
 at_end d (e ∷ es) (suc n) h = at_end d es n (omega arith)
-
-pub no_further : (d : Derivative) (es fs : List (Derivative × WholePolynomial)) (e : Derivative × WholePolynomial) → es ≡ e ∷ fs → ¬ (derivative_cmp d e.0 ≡ Greater) → GoesNoFurther d es
-no_further d es fs e h n = subst (GoesNoFurther d) (sym h) n
 
 pub first_is : (d : Derivative) (es fs : List (Derivative × WholePolynomial)) (e : Derivative × WholePolynomial) → es ≡ e ∷ fs → derivative_cmp d e.0 ≡ Equal → IsFirst d es
 first_is d es fs e h q = subst (IsFirst d) (sym h) q

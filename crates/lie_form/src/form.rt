@@ -213,16 +213,7 @@ fn place_of(terms: &[(Der, JetPoly)], der: &Der) -> usize
     ensures before { (a : WholePolynomial) → GoesTo (derivative_of der.now) a (derivative_terms terms.now) result }
     ensures stop { GoesNoFurther (derivative_of der.now) (drop result (derivative_terms terms.now)) }
 {
-    let mut low = 0;
-    let mut high = terms.len();
-    while low < high {
-        let middle = low + (high - low) / 2;
-        match compare_derivatives(der, &terms[middle].0) {
-            Ordering::Greater => low = middle + 1,
-            _ => high = middle,
-        }
-    }
-    low
+    terms.partition_point(|term| compare_derivatives(der, &term.0).is_gt())
 }
 
 /// Whether the derivative stands at the place.

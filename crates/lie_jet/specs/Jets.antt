@@ -2,14 +2,15 @@
 use Rattle.std.specs.Prelude.{◌≡◌, ℕ, ◌<◌, ◌≤◌, ◌-◌, length, take, drop, replicate}
 use Rattle.lie_math.specs.Counts.{order}
 use Rattle.lie_geometry.specs.Coordinates.{Space, Coordinate, jet}
+use Rattle.lie_jet.specs.Limits.{greatest_variable_count}
 use Rattle.lie_jet.specs.declared.jet.Jet.{Jet}
 
 -- 1 to 4 variables of each kind
 pub record IsSmall (S : Space) : Type 0 where
   pub some_p : 0 < S.p
-  pub few_p : S.p ≤ 4
+  pub few_p : S.p ≤ greatest_variable_count
   pub some_q : 0 < S.q
-  pub few_q : S.q ≤ 4
+  pub few_q : S.q ≤ greatest_variable_count
 
 -- the coordinate: the counts by the p independent variables
 abbrev pub coordinate_of : Space → Jet → Coordinate
@@ -19,6 +20,6 @@ coordinate_of S j = jet j.dep (take S.p j.counts)
 pub record IsJet (S : Space) (n : ℕ) (j : Jet) : Type 0 where
   pub space : IsSmall S
   pub dependent : j.dep < S.q
-  pub four : length j.counts ≡ 4
-  pub rest : drop S.p j.counts ≡ replicate (4 - S.p) 0
+  pub four : length j.counts ≡ greatest_variable_count
+  pub rest : drop S.p j.counts ≡ replicate (greatest_variable_count - S.p) 0
   pub low : order (take S.p j.counts) ≤ n

@@ -1,3 +1,4 @@
+pub mod Limits
 pub mod Jets
 pub mod Slopes
 pub mod Listed

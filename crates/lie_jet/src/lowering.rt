@@ -2,6 +2,7 @@
 ghost use Rattle.std.specs.Prelude.{◌≡◌, ◌<◌, [], ◌∷◌, suc, take, MatchOption};
 ghost use Rattle.lie_math.specs.Counts.{order};
 ghost use Rattle.lie_geometry.specs.Prolongation.{indices};
+ghost use Rattle.lie_jet.specs.Limits.{greatest_jet_order};
 ghost use Rattle.lie_jet.specs.Jets.{IsJet};
 ghost use Rattle.lie_jet.specs.Lowered.{IsLowered};
 
@@ -10,7 +11,7 @@ use crate::space::Space;
 
 /// The last variable by which the jet is derived, and the jet derived once less by it; None for a dependent variable itself.
 pub fn lowered(space: Space, jet: &Jet) -> Option<(u8, Jet)>
-    requires { IsJet space 12 jet.now }
+    requires { IsJet space greatest_jet_order jet.now }
     ensures { MatchOption result (indices (take space.p jet.now.counts) ≡ []) (λ r. IsLowered space jet.now r.0 r.1) }
 {
     let mut i = space.p;

@@ -2,11 +2,12 @@
 ghost use Rattle.std.specs.Prelude.{◌≡◌, suc, ◌+◌, ◌*◌, ◌<◌, ◌≤◌, length};
 ghost use Rattle.lie_math.specs.Counts.{order};
 ghost use Rattle.lie_geometry.specs.Coordinates.{sum_below, ways, rank as rank_in};
+ghost use Rattle.lie_jet.specs.Limits.{greatest_variable_count, greatest_jet_order};
 
 /// How many lists of `p` counts have a sum below `n`.
 pub fn lists_below(p: usize, n: u32) -> u32
-    requires few { p ≤ 4 }
-    requires low { n ≤ 13 }
+    requires few { p ≤ greatest_variable_count }
+    requires low { n ≤ suc greatest_jet_order }
     ensures count { result ≡ sum_below (ways p) n }
     ensures small { result ≤ 1820 }
 {
@@ -33,8 +34,8 @@ pub fn sum_of_counts(counts: &[u8]) -> u32
 
 /// How many lists of as many counts with the same sum are lexicographically greater.
 pub fn rank_of(counts: &[u8]) -> u32
-    requires few { length counts.now ≤ 4 }
-    requires low { order counts.now ≤ 12 }
+    requires few { length counts.now ≤ greatest_variable_count }
+    requires low { order counts.now ≤ greatest_jet_order }
     ensures rank { result ≡ rank_in counts.now }
     ensures small { result ≤ 1820 }
 {
@@ -47,10 +48,10 @@ pub fn rank_of(counts: &[u8]) -> u32
 
 /// The greatest number up to `most` below which at most `place` lists of `p` counts, `times` times each, have their sums.
 pub fn sum_at(p: usize, times: u32, place: u32, most: u32) -> u32
-    requires few { p ≤ 4 }
-    requires low { most ≤ 12 }
+    requires few { p ≤ greatest_variable_count }
+    requires low { most ≤ greatest_jet_order }
     requires positive { 1 ≤ times }
-    requires small { times ≤ 4 }
+    requires small { times ≤ greatest_variable_count }
     requires within { place < times * sum_below (ways p) (suc most) }
     ensures most { result ≤ most }
     ensures at { times * sum_below (ways p) result ≤ place }
@@ -65,8 +66,8 @@ pub fn sum_at(p: usize, times: u32, place: u32, most: u32) -> u32
 
 /// Makes the counts those with a sum and a rank.
 pub fn put_counts(counts: &mut [u8], sum: u32, rank: u32)
-    requires few { length counts.old ≤ 4 }
-    requires low { sum ≤ 12 }
+    requires few { length counts.old ≤ greatest_variable_count }
+    requires low { sum ≤ greatest_jet_order }
     requires within { rank < ways (length counts.old) sum }
     ensures sum { order counts.new ≡ sum }
     ensures rank { rank_in counts.new ≡ rank }

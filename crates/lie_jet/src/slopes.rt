@@ -4,6 +4,7 @@ ghost use Rattle.lie_math.specs.Counts.{raise};
 ghost use Rattle.lie_math.specs.Polynomial.{variable};
 ghost use Rattle.lie_geometry.specs.Coordinates.{coordinates_up_to, jet as jet_at};
 ghost use Rattle.lie_geometry.specs.Prolongation.{total_derivative};
+ghost use Rattle.lie_jet.specs.Limits.{greatest_jet_order};
 ghost use Rattle.lie_jet.specs.Jets.{coordinate_of, IsJet};
 ghost use Rattle.lie_jet.specs.Slopes.{IsSlope};
 
@@ -17,7 +18,7 @@ use std::alloc::Global;
 pub fn raise_jet(space: Space, jet: &Jet, i: u8) -> Jet
     requires within { i < space.p }
     requires jet { IsJet space 11 jet.now }
-    ensures jet { IsJet space 12 result }
+    ensures jet { IsJet space greatest_jet_order result }
     ensures raised { coordinate_of space result ≡ jet_at jet.now.dep (raise i (take space.p jet.now.counts)) }
 {
     let mut raised = *jet;

@@ -15,12 +15,13 @@ pub struct Space {
 impl Model for Space {
     ghost use Rattle.std.specs.Prelude.{◌≤◌};
     ghost use Rattle.lie_geometry.specs.Coordinates as coordinates;
+    ghost use Rattle.lie_jet.specs.Limits.{greatest_variable_count};
 
     ghost Value = { coordinates.Space };
 
     ghost view = { λ s. record { p = s.p; q = s.q } };
 
-    ghost invariant = { λ s. (1 ≤ s.p) × (s.p ≤ 4) × (1 ≤ s.q) × (s.q ≤ 4) };
+    ghost invariant = { λ s. (1 ≤ s.p) × (s.p ≤ greatest_variable_count) × (1 ≤ s.q) × (s.q ≤ greatest_variable_count) };
 
     ghost inverse = { λ s. record { p = s.p; q = s.q } };
 }

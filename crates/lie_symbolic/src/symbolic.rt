@@ -4,6 +4,7 @@ ghost use Rattle.std.specs.List.{list_any};
 ghost use Rattle.lie_geometry.specs.Coordinates.{coordinate, coordinates_up_to};
 ghost use Rattle.lie_geometry.specs.SymbolicProlongation.{symbolic_coefficient_at};
 ghost use Rattle.lie_systems.specs.Bulk.{IsFormWithinLimits};
+ghost use Rattle.lie_jet.specs.Limits.{greatest_written_order};
 ghost use Rattle.lie_jet.specs.JetLists.{HoldsUpTo};
 ghost use Rattle.lie_symbolic.specs.SymbolicBulks.{symbolic_bulk_at};
 ghost use Rattle.lie_symbolic.specs.SymbolicCoefficients.{coefficient_among, coefficients_among};
@@ -16,7 +17,7 @@ use std::alloc::Global;
 
 /// The bulk of each prolonged coefficient of order 0 to 6 is within the limits.
 pub fn coefficients_are_within_limits(space: Space)
-    ensures { HoldsUpTo space 6 (λ c. IsFormWithinLimits (symbolic_bulk_at space c)) }
+    ensures { HoldsUpTo space greatest_written_order (λ c. IsFormWithinLimits (symbolic_bulk_at space c)) }
 {
     space_is_small(space);
 }
@@ -28,7 +29,7 @@ fn coefficient_at(
     numbers: &[u32],
     number: u32,
 ) -> Result<SymForm, NoMemory>
-    requires { number < coordinates_up_to space 6 }
+    requires { number < coordinates_up_to space greatest_written_order }
     ensures { IfOk result (λ made. made ≡ coefficient_among space numbers.now number) }
 {
     if !numbers.contains(&number) {
@@ -51,7 +52,7 @@ pub fn prolong_sym(
     order: u8,
     numbers: &[u32],
 ) -> Result<Vec<SymForm>, NoMemory>
-    requires low { order ≤ 6 }
+    requires low { order ≤ greatest_written_order }
     ensures { IfOk result (λ made. made.items ≡ coefficients_among space numbers.now (coordinates_up_to space order)) }
 {
     space_is_small(space);

@@ -5,6 +5,7 @@ ghost use Rattle.lie_math.specs.LinearForm.{◌+ᶠ◌, each_coefficient, times_
 ghost use Rattle.lie_math.specs.Polynomial.{constant};
 ghost use Rattle.lie_geometry.specs.SymbolicProlongation.{symbolic_total, symbolic_coefficient_at, unknown as unknown_at};
 ghost use Rattle.lie_systems.specs.Bulk.{IsFormWithinLimits};
+ghost use Rattle.lie_jet.specs.Limits.{greatest_written_order};
 ghost use Rattle.lie_jet.specs.Derivatives.{derivative_of};
 ghost use Rattle.lie_form.specs.FormLimits.{IsFormCoefficientCause, HasJetsUpTo, HasOrdersUpTo};
 ghost use Rattle.lie_jet.specs.Jets.{coordinate_of, IsJet};
@@ -18,7 +19,7 @@ use std::alloc::Global;
 
 /// The prolonged coefficient at a jet of order at most 6.
 pub fn symbolic_coefficient(alloc: Global, space: Space, jet: &Jet) -> Result<SymForm, NoMemory>
-    requires { IsJet space 6 jet.now }
+    requires { IsJet space greatest_written_order jet.now }
     ensures { IfOk result (λ made. made ≡ symbolic_coefficient_at space (coordinate_of space jet.now)) }
 {
     match lowered(space, jet) {
