@@ -10,18 +10,13 @@ use Rattle.lie_systems.specs.EquationOrder.{equation_cmp}
 use Rattle.lie_systems.specs.Normalised.{IsNormalised}
 use Rattle.lie_systems.specs.ValidSystems.{IsFormOf, IsValid}
 use Rattle.lie_systems.proofs.EquationOrder.{equation_cmp_total}
-use Rattle.lie_lin.specs.EquationLists.{GoesTo, HasAlso, HasUnlessEmpty, IsEquationFor}
+use Rattle.lie_lin.specs.EquationLists.{IsInsertionPoint, HasAlso, HasUnlessEmpty, IsEquationFor}
 use Rattle.lie_lin.specs.Systems.{with_equations}
+use Rattle.lie_lin.proofs.AddedEquations.{no_equations_sorted}
 use Rattle.lie_lin.proofs.SortedPlaces.{contained_insert, contains_inserted, contains_insert, contained_remove, contains_remove, contains_picked, picked_or_left, remove_behind, remove_before, sorted_insert, sorted_remove}
 
 -- ---- lists
-pub also_insert : (Es : List LinearForm) (E : LinearForm) (i : ℕ) → IsStrictlySortedBy equation_cmp Es → GoesTo E Es i → HasAlso E Es (insert Es i E)
-also_insert Es E i s p = record {
-  ordered = sorted_insert equation_cmp equation_cmp_total Es E i s p.within p.above p.below;
-  elements = λ N. (λ c. contained_insert Es i E N c, λ h. elim h [ inl e ↦ subst (Contains (insert Es i E)) e (contains_inserted Es i E) | inr c ↦ contains_insert Es i E N c ]);
-}
-
-pub also_present : (Es : List LinearForm) (E : LinearForm) → IsStrictlySortedBy equation_cmp Es → Contains Es E → HasAlso E Es Es
+also_present : (Es : List LinearForm) (E : LinearForm) → IsStrictlySortedBy equation_cmp Es → Contains Es E → HasAlso E Es Es
 also_present Es E s c = record { ordered = s; elements = λ N. (λ d. inr d, λ h. elim h [ inl e ↦ subst (Contains Es) e c | inr d ↦ d ]) }
 
 -- the equation at a place is replaced by itself
@@ -48,7 +43,7 @@ also_moved Es Ns E g s e = record {
   );
 }
 
-module _ (Es : List LinearForm) (E : LinearForm) (g i : ℕ) (s : IsStrictlySortedBy equation_cmp Es) (p : GoesTo E Es g) (lt : i < length Es) where
+module _ (Es : List LinearForm) (E : LinearForm) (g i : ℕ) (s : IsStrictlySortedBy equation_cmp Es) (p : IsInsertionPoint equation_cmp E Es g) (lt : i < length Es) where
   inserted : IsStrictlySortedBy equation_cmp (insert Es g E)
   inserted = sorted_insert equation_cmp equation_cmp_total Es E g s p.within p.above p.below
 
@@ -108,6 +103,15 @@ module _ (n : ℕ) (S : LinearSystem) (v : IsValid n S) where
     components = v.components;
   }
 
-pub none_sorted : IsStrictlySortedBy equation_cmp []
-unfolding IsStrictlySortedBy
-none_sorted = tt
+  -- the system without equations
+  pub valid_taken : IsValid n (with_equations S [])
+  valid_taken = record {
+    rising = v.rising;
+    below = v.below;
+    variables = v.variables;
+    equations = tt;
+    normalised = tt;
+    ordered = no_equations_sorted;
+    general = v.general;
+    components = v.components;
+  }

@@ -10,9 +10,8 @@ pub mod DividedForms
 pub mod DividedLimits
 pub mod OrderSteps
 pub mod SortedPlaces
+pub mod AddedEquations
 mod EquationPlaces
-mod SystemChanges
-mod KeptUnknowns
 mod EquationTies
 mod SystemSteps
 mod DecidingParts

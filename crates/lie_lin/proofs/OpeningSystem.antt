@@ -1,5 +1,5 @@
 -- The system of two unknowns of both variables with the equation that the first is 0.
-use Rattle.std.specs.Prelude.{◌≡◌, ℕ, [], ◌∷◌, List, ℤ, pos}
+use Rattle.std.specs.Prelude.{◌≡◌, ℕ, [], ◌∷◌, List, map, ℤ, pos}
 use Rattle.std.proofs.Common.{refl, sym, subst, ap₂, ◌∙◌, arith, inl}
 use Rattle.std.specs.List.Sorted.{IsStrictlySortedBy}
 use Rattle.lie_math.specs.FiniteSumLaws.{plus_comm, plus_idl}
@@ -8,14 +8,14 @@ use Rattle.lie_math.specs.Polynomial.{term}
 use Rattle.lie_math.specs.LinearForm.{LinearForm, forms, no_form, form_term, unknown_form}
 use Rattle.lie_systems.specs.Triples.{sum_of_triples}
 use Rattle.lie_math.specs.LinearSystem.{LinearSystem}
-use Rattle.lie_systems.specs.ValidSystems.{IsValid, HasVariablesBelow}
+use Rattle.lie_systems.specs.ValidSystems.{IsValid}
 use Rattle.lie_systems.proofs.WorkedValues.{line_system_is_valid}
 use Rattle.lie_jet.specs.declared.derivative.Der.{Der}
 use Rattle.lie_jet.specs.Derivatives.{derivative_of}
 use Rattle.lie_lin.specs.declared.system.Unknown as kept
 use Rattle.lie_lin.specs.Forms.{triples_of}
 use Rattle.lie_lin.specs.EquationLists.{IsEquationFor}
-use Rattle.lie_lin.specs.Systems.{SpaceSystem, system_of, fresh_unknown, with_unknown, without_unknown}
+use Rattle.lie_lin.specs.Systems.{SpaceSystem, system_of, unknown_of, with_unknowns}
 
 pub unknown_sum : (n : ℕ) (d : Der) (m : Monomial) (a : ℤ) → derivative_of d ≡ record { unknown = n; counts = [] } → m ≡ unit → a ≡ pos 1 → sum_of_triples (triples_of ((d, m, a) ∷ [])) ≡ unknown_form n
 unknown_sum n d m a e f g =
@@ -47,13 +47,10 @@ worked_is_valid = record {
 pub equation_for_worked : IsEquationFor 2 worked (unknown_form 2)
 equation_for_worked = (line_system_is_valid.general.1.0, λ n. inl (record { unknown = 2; counts = [] }, refl))
 
-pub fresh_for_worked : HasVariablesBelow 2 (fresh_unknown worked 3)
-fresh_for_worked = line_system_is_valid.variables.0
-
--- with a fresh unknown, and without it again
-pub worked_without : IsValid 2 (without_unknown (with_unknown worked (fresh_unknown worked 3)) 2)
+-- with the same unknowns, and another number above theirs
+pub worked_with_unknowns : IsValid 2 (with_unknowns worked (map unknown_of (first ∷ second ∷ [])) 4)
 unfolding IsStrictlySortedBy
-worked_without = record {
+worked_with_unknowns = record {
   rising = line_system_is_valid.rising;
   below = (omega arith, (omega arith, tt));
   variables = line_system_is_valid.variables;

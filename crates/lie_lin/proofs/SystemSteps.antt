@@ -13,8 +13,9 @@ use Rattle.lie_systems.specs.EquationOrder.{equation_cmp}
 use Rattle.lie_jet.specs.declared.derivative.Der.{Der}
 use Rattle.lie_lin.specs.EquationLists.{HasUnlessEmpty, IsEquationFor}
 use Rattle.lie_lin.specs.Forms.{coefficients_of}
-use Rattle.lie_lin.specs.Systems.{with_equations}
-use Rattle.lie_lin.proofs.EquationPlaces.{unless_empty, valid_also}
+use Rattle.lie_lin.specs.Systems.{system_of, with_equations}
+use Rattle.lie_lin.specs.declared.system.Unknown as kept
+use Rattle.lie_lin.proofs.EquationPlaces.{unless_empty, valid_also, valid_removed}
 use Rattle.lie_lin.proofs.SortedPlaces.{contained_remove, sorted_remove}
 
 length-coefficients : (es : List (Der × WholePolynomial)) → length (coefficients_of es) ≡ length es
@@ -45,3 +46,9 @@ module _ (n : ℕ) (S : LinearSystem) (v : IsValid n S) (E : LinearForm) (f : Is
 -- what is put in place of another, where it is empty
 pub removed_empty : (E : LinearForm) (Es : List LinearForm) (i : ℕ) → E ≡ no_form → i < length Es → IsStrictlySortedBy equation_cmp Es → HasUnlessEmpty E (remove Es i) (remove Es i)
 removed_empty E Es i z lt s = unless_empty E (remove Es i) z (sorted_remove equation_cmp Es i lt s)
+
+-- the system as the program keeps it, with other equations
+pub valid_equations : (n : ℕ) (us : List kept.Unknown) (Es Gs new : List LinearForm) (next i : ℕ) → new ≡ remove Es i → i < length Es
+    → IsValid n (system_of us Es Gs next) → IsValid n (system_of us new Gs next)
+valid_equations n us Es Gs new next i is lt v =
+    subst (λ (xs : List LinearForm). IsValid n (system_of us xs Gs next)) (sym is) (valid_removed n (system_of us Es Gs next) v i lt)

@@ -1,5 +1,5 @@
 -- Unknowns and systems as the program keeps them.
-use Rattle.std.specs.Prelude.{◌≡◌, ℕ, suc, ◌/◌, ◌%◌, ◌^◌, Bool, eqb, List, [], ◌∷◌, ◌++◌, filter, map, remove}
+use Rattle.std.specs.Prelude.{◌≡◌, ℕ, ◌/◌, ◌%◌, ◌^◌, Bool, eqb, List, filter, map}
 use Rattle.std.specs.List.{range_with_len}
 use Rattle.std.specs.Coded.{Coded, coded×, coded_ℕ}
 use base.Stored.{coded_via}
@@ -29,19 +29,9 @@ system_of unknowns equations general next = record {
 abbrev pub with_equations : LinearSystem → List LinearForm → LinearSystem
 with_equations S Es = record S { equations = Es }
 
-abbrev pub with_general : LinearSystem → List LinearForm → LinearSystem
-with_general S Gs = record S { general = Gs }
-
--- the unknown with the number that is free, and with the variables whose bits are set
-abbrev pub fresh_unknown : LinearSystem → ℕ → Unknown
-fresh_unknown S bits = record { number = S.next; variables = filter (has_bit bits) (range_with_len 0 8) }
-
--- with one more unknown, which has the number that was free
-abbrev pub with_unknown : LinearSystem → Unknown → LinearSystem
-with_unknown S f = record S { unknowns = S.unknowns ++ f ∷ []; next = suc S.next }
-
-abbrev pub without_unknown : LinearSystem → ℕ → LinearSystem
-without_unknown S i = record S { unknowns = remove S.unknowns i }
+-- with other unknowns, and another number above theirs
+abbrev pub with_unknowns : LinearSystem → List Unknown → ℕ → LinearSystem
+with_unknowns S us n = record S { unknowns = us; next = n }
 
 -- ---- a system over a space can be stored
 pub record SpaceSystem : Type 0 where

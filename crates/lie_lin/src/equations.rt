@@ -3,7 +3,7 @@ ghost use Rattle.std.specs.Prelude.{◌≡◌, ◌<◌, length, remove, slice_in
 ghost use Rattle.std.specs.List.{Contains};
 ghost use Rattle.std.specs.List.Sorted.{IsStrictlySortedBy};
 ghost use Rattle.lie_systems.specs.EquationOrder.{equation_cmp};
-ghost use Rattle.lie_lin.specs.EquationLists.{GoesTo, HasAlso, HasUnlessEmpty};
+ghost use Rattle.lie_lin.specs.EquationLists.{Adds, HasAlso, HasUnlessEmpty, IsInsertionPoint, IsOneMore};
 
 use crate::equation::LinEq;
 use crate::order::compare_equations;
@@ -14,7 +14,8 @@ use std::cmp::Ordering;
 /// The place before which an equation has to be put; None where it is there.
 fn place_of(alloc: Global, equations: &[LinEq], eq: &LinEq) -> Result<Option<usize>, NoMemory>
     requires { IsStrictlySortedBy equation_cmp equations.now }
-    ensures { IfOk result (λ found. MatchOption found (Contains equations.now eq.now) (GoesTo eq.now equations.now)) }
+    ensures { IfOk result (λ found. MatchOption found (Contains equations.now eq.now)
+        (IsInsertionPoint equation_cmp eq.now equations.now)) }
 {
     let mut low = 0;
     let mut high = equations.len();
@@ -29,16 +30,25 @@ fn place_of(alloc: Global, equations: &[LinEq], eq: &LinEq) -> Result<Option<usi
     Ok(Some(low))
 }
 
-/// Puts an equation into its place among others, unless it is there.
-fn insert_equation(equations: &mut Vec<LinEq>, alloc: Global, eq: LinEq) -> Result<(), NoMemory>
+/// Puts an equation into its place among others, unless it is there, and tells the place. After an error the list is as it was.
+pub fn insert_equation(
+    equations: &mut Vec<LinEq>,
+    alloc: Global,
+    eq: LinEq,
+) -> Result<Option<usize>, NoMemory>
     requires { IsStrictlySortedBy equation_cmp equations.old.items }
-    ensures put { OnOk result (HasAlso eq equations.old.items equations.new.items) }
+    ensures added { OnOk result (Adds (λ e. e ≡ eq) equations.old.items equations.new.items) }
+    ensures place { IfOk result (λ found. MatchOption found (equations.new.items ≡ equations.old.items)
+        (λ i. IsOneMore i equations.old.items equations.new.items)) }
     ensures kept { OnErr result (equations.new.items ≡ equations.old.items) }
 {
-    if let Some(place) = place_of(alloc, equations.as_slice(), &eq)? {
-        equations.insert(place, eq)?;
+    match place_of(alloc, equations.as_slice(), &eq)? {
+        None => Ok(None),
+        Some(place) => {
+            equations.insert(place, eq)?;
+            Ok(Some(place))
+        }
     }
-    Ok(())
 }
 
 /// Puts an equation into its place among others in order, unless it is there or is empty. After an error the list is as it was.
@@ -50,7 +60,8 @@ pub fn put_equation(equations: &mut Vec<LinEq>, alloc: Global, eq: LinEq) -> Res
     if eq.terms().len() == 0 {
         return Ok(());
     }
-    insert_equation(equations, alloc, eq)
+    let _ = insert_equation(equations, alloc, eq)?;
+    Ok(())
 }
 
 /// Whether an equation is the one at a place.
@@ -99,7 +110,7 @@ fn exchange(
 ) -> Result<(), NoMemory>
     requires ordered { IsStrictlySortedBy equation_cmp equations.old.items }
     requires place { place < length equations.old.items }
-    requires goal { GoesTo eq equations.old.items goal }
+    requires goal { IsInsertionPoint equation_cmp eq equations.old.items goal }
     ensures put { OnOk result (HasAlso eq (remove equations.old.items place) equations.new.items) }
     ensures kept { OnErr result (equations.new.items ≡ equations.old.items) }
 {

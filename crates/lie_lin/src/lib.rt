@@ -15,8 +15,8 @@ mod validity;
 
 pub use content::{common_monomial, content_of};
 pub use equation::{LinEq, lead, push_triples, triples};
-pub use equations::{put_equation, replace_equation};
-pub use normalised::{derivative_alone, divided_coefficient, primitive};
+pub use equations::{insert_equation, put_equation, replace_equation};
+pub use normalised::{derivative_alone, divided_coefficient, divided_coefficients, primitive};
 pub use order::{compare_equations, form_triple_count};
 pub use sum::of_triples;
 pub use system::{LinSystem, Unknown};

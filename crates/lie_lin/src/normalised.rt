@@ -70,7 +70,7 @@ pub fn divided_coefficient(
 }
 
 /// Coefficients divided by a number and a monomial that divide each of their terms.
-fn divided_coefficients(
+pub fn divided_coefficients(
     alloc: Global,
     number: Whole,
     mono: &Mono,

@@ -1,8 +1,8 @@
 // Linear systems for unknown polynomials.
-ghost use Rattle.std.specs.Prelude.{◌≡◌, ◌+◌, ◌-◌, ◌<◌, ◌^◌, map, length, remove, slice_index_or, slice_set, IfOk, OnOk, OnErr};
-ghost use Rattle.lie_systems.specs.ValidSystems.{IsFormOf, IsValid, HasVariablesBelow};
+ghost use Rattle.std.specs.Prelude.{◌≡◌, ◌+◌, ◌<◌, [], map, length, remove, slice_index_or, OnOk, OnErr};
+ghost use Rattle.lie_systems.specs.ValidSystems.{IsValid};
 ghost use Rattle.lie_lin.specs.EquationLists.{HasUnlessEmpty, IsEquationFor};
-ghost use Rattle.lie_lin.specs.Systems.{system_of, unknown_of, with_equations, with_general, with_unknown, without_unknown, fresh_unknown};
+ghost use Rattle.lie_lin.specs.Systems.{system_of, unknown_of, with_equations, with_unknowns};
 
 use crate::equation::LinEq;
 use crate::equations::{put_equation, replace_equation};
@@ -10,6 +10,7 @@ use lie_bytes::NoMemory;
 use lie_jet::Space;
 use std::alloc::Global;
 use std::marker::Model;
+use std::mem;
 
 /// An unknown polynomial.
 #[derive(Clone, Copy, PartialEq, Eq, Debug)]
@@ -153,42 +154,31 @@ impl LinSystem {
         replace_equation(&mut self.equations, alloc, place, eq)
     }
 
-    /// Replaces the general form of a component.
-    pub fn set_general(&mut self, component: usize, form: LinEq)
-        requires place { component < length self.old.system.general }
-        requires form { IsFormOf (self.old.space.p + self.old.space.q) self.old.system.unknowns form }
+    /// Takes the equations out, so that none is left. They are moved: it takes no memory.
+    pub fn take_equations(&mut self, alloc: Global) -> Vec<LinEq>
+        ensures taken { result.items ≡ self.old.system.equations }
         ensures space { self.new.space ≡ self.old.space }
-        ensures system { self.new.system ≡ with_general self.old.system (slice_set self.old.system.general component form) }
+        ensures system { self.new.system ≡ with_equations self.old.system [] }
     {
-        self.general[component] = form;
+        mem::replace(&mut self.equations, Vec::new(alloc))
     }
 
-    /// Puts a fresh unknown behind the others, with the number `next`, which is 1 more from there on. After an error the system is as
-    /// it was.
-    pub fn add_unknown(&mut self, vars: u8) -> Result<Unknown, NoMemory>
-        requires free { self.old.system.next < 2 ^ 32 - 1 }
-        requires variables { HasVariablesBelow (self.old.space.p + self.old.space.q) (fresh_unknown self.old.system vars) }
-        ensures unknown { IfOk result (λ unknown. unknown_of unknown ≡ fresh_unknown self.old.system vars) }
+    /// Puts other equations in the place of those that are there. They are moved: it takes no memory.
+    pub fn set_equations(&mut self, equations: Vec<LinEq>)
+        requires { IsValid (self.old.space.p + self.old.space.q) (with_equations self.old.system equations.items) }
         ensures space { self.new.space ≡ self.old.space }
-        ensures system { OnOk result (self.new.system ≡ with_unknown self.old.system (fresh_unknown self.old.system vars)) }
-        ensures kept { OnErr result (self.new ≡ self.old) }
+        ensures system { self.new.system ≡ with_equations self.old.system equations.items }
     {
-        let unknown = Unknown {
-            number: self.next,
-            vars,
-        };
-        self.unknowns.push(unknown)?;
-        self.next += 1;
-        Ok(unknown)
+        self.equations = equations;
     }
 
-    /// Removes the unknown at a place, which no equation and no general form has.
-    pub fn remove_unknown(&mut self, place: usize)
-        requires place { place < length self.old.system.unknowns }
-        requires rest { IsValid (self.old.space.p + self.old.space.q) (without_unknown self.old.system place) }
+    /// Puts other unknowns in the place of those that are there, and another number above theirs. They are moved: it takes no memory.
+    pub fn set_unknowns(&mut self, unknowns: Vec<Unknown>, next: u32)
+        requires { IsValid (self.old.space.p + self.old.space.q) (with_unknowns self.old.system (map unknown_of unknowns.items) next) }
         ensures space { self.new.space ≡ self.old.space }
-        ensures system { self.new.system ≡ without_unknown self.old.system place }
+        ensures system { self.new.system ≡ with_unknowns self.old.system (map unknown_of unknowns.items) next }
     {
-        self.unknowns.remove(place);
+        self.unknowns = unknowns;
+        self.next = next;
     }
 }

@@ -1,11 +1,11 @@
 // Lists of equations in order, and a system whose parts are changed.
-ghost use Rattle.std.specs.Prelude.{◌≡◌, ◌+◌, ◌<◌, length, IfOk, OnOk};
+ghost use Rattle.std.specs.Prelude.{◌≡◌, ◌+◌, ◌∷◌, [], length, map, IfOk, OnOk};
 ghost use Rattle.std.specs.List.Sorted.{IsStrictlySortedBy};
 ghost use Rattle.lie_math.specs.LinearForm.{unknown_form};
 ghost use Rattle.lie_systems.specs.EquationOrder.{equation_cmp};
-ghost use Rattle.lie_systems.specs.ValidSystems.{HasVariablesBelow, IsValid};
+ghost use Rattle.lie_systems.specs.ValidSystems.{IsValid};
 ghost use Rattle.lie_lin.specs.EquationLists.{IsEquationFor};
-ghost use Rattle.lie_lin.specs.Systems.{fresh_unknown, with_unknown, without_unknown};
+ghost use Rattle.lie_lin.specs.Systems.{unknown_of, with_unknowns};
 
 use crate::tests::unknown;
 use crate::{LinEq, LinSystem, Unknown, lead, put_equation, replace_equation};
@@ -83,18 +83,25 @@ fn equations_stay_in_order_each_once(rt: HostRuntime) -> Result<(), Fail> {
     Ok(())
 }
 
+// Two unknowns, each of both variables.
+fn unknowns(alloc: Global) -> Result<Vec<Unknown>, NoMemory>
+    ensures { IfOk result (λ us. us.items ≡ record { number = 1; vars = 3 } ∷ record { number = 2; vars = 3 } ∷ []) }
+{
+    let mut unknowns = Vec::new(alloc);
+    unknowns.push(Unknown { number: 1, vars: 3 })?;
+    unknowns.push(Unknown { number: 2, vars: 3 })?;
+    Ok(unknowns)
+}
+
 // The fields f1*d_x + f2*d_u with the condition that f1 is 0.
 fn fields(alloc: Global) -> Result<LinSystem, NoMemory>
     ensures counts { IfOk result (λ s. (length s.system.unknowns ≡ 2) × (length s.system.equations ≡ 1)
         × (length s.system.general ≡ 2) × (s.system.next ≡ 3)) }
     ensures forms { IfOk result (λ s. IsEquationFor (s.space.p + s.space.q) s.system (unknown_form 2)) }
-    ensures fresh { IfOk result (λ s. HasVariablesBelow (s.space.p + s.space.q) (fresh_unknown s.system 3)) }
-    ensures without { IfOk result (λ s. IsValid (s.space.p + s.space.q)
-        (without_unknown (with_unknown s.system (fresh_unknown s.system 3)) 2)) }
+    ensures unknowns { IfOk result (λ s. IsValid (s.space.p + s.space.q)
+        (with_unknowns s.system (map unknown_of (record { number = 1; vars = 3 } ∷ record { number = 2; vars = 3 } ∷ [])) 4)) }
 {
-    let mut unknowns = Vec::new(alloc);
-    unknowns.push(Unknown { number: 1, vars: 3 })?;
-    unknowns.push(Unknown { number: 2, vars: 3 })?;
+    let unknowns = unknowns(alloc)?;
     let mut equations = Vec::new(alloc);
     equations.push(unknown(alloc, 1)?)?;
     let mut general = Vec::new(alloc);
@@ -132,30 +139,32 @@ fn changed_equations(alloc: Global) -> Result<[(u32, u32, usize); 3], NoMemory> 
     ])
 }
 
-// The general forms with f2 as the first.
-fn changed_general(alloc: Global) -> Result<(u32, u32, usize), NoMemory> {
+// The equations after they are taken out, and after they are put back.
+fn exchanged_equations(alloc: Global) -> Result<[(u32, u32, usize); 2], NoMemory> {
     let mut system = fields(alloc)?;
-    system.set_general(0, unknown(alloc, 2)?);
-    Ok(numbers_of(system.general()))
+    system.space();
+    let equations = system.take_equations(alloc);
+    let none = numbers_of(system.equations());
+    system.set_equations(equations);
+    Ok([none, numbers_of(system.equations())])
 }
 
-// How many unknowns there are, and the next number, with one more unknown and without it again.
-fn changed_unknowns(alloc: Global) -> Result<[(usize, u32); 2], NoMemory> {
+// How many unknowns there are, and the number above theirs, after the same are put there with another number.
+fn exchanged_unknowns(alloc: Global) -> Result<(usize, u32), NoMemory> {
     let mut system = fields(alloc)?;
-    system.add_unknown(3)?;
-    let more = (system.unknowns().len(), system.next());
-    system.remove_unknown(2);
-    Ok([more, (system.unknowns().len(), system.next())])
+    let unknowns = unknowns(alloc)?;
+    system.set_unknowns(unknowns, 4);
+    Ok((system.unknowns().len(), system.next()))
 }
 
 #[test]
 fn parts_of_systems_are_changed(rt: HostRuntime) -> Result<(), Fail> {
     let equations = changed_equations(rt.alloc()).map_err(|_| "memory")?;
     assert_eq!(rt; equations, [(1, 2, 2), (2, 0, 1), (0, 0, 0)]);
-    let general = changed_general(rt.alloc()).map_err(|_| "memory")?;
-    assert_eq!(rt; general, (2, 2, 2));
-    let unknowns = changed_unknowns(rt.alloc()).map_err(|_| "memory")?;
-    assert_eq!(rt; unknowns, [(3, 4), (2, 4)]);
+    let exchanged = exchanged_equations(rt.alloc()).map_err(|_| "memory")?;
+    assert_eq!(rt; exchanged, [(0, 0, 0), (1, 0, 1)]);
+    let unknowns = exchanged_unknowns(rt.alloc()).map_err(|_| "memory")?;
+    assert_eq!(rt; unknowns, (2, 4));
     Ok(())
 }
 

@@ -1,6 +1,7 @@
 -- Leads in order: halving, one lead more, and which of them divides a derivative first.
 use Rattle.std.specs.Prelude.{◌≡◌, ℕ, zero, suc, ◌+◌, ◌<◌, ◌≤◌, ◌⊎◌, List, [], ◌∷◌, ◌++◌, length, get_or, take, drop}
-use Rattle.std.proofs.Common.{sym, ap, subst, ◌∙◌, arith, inl, inr, add-one}
+use Rattle.std.proofs.Common.{sym, ap, subst, ◌∙◌, arith, inl, inr, add-one, ltb, ltb-true, lt-ltb}
+use Rattle.std.specs.List.Sorted.{IsPartitionedBy}
 use Rattle.std.specs.List.{Any, AllByRecursion as Every}
 use Rattle.lie_math.specs.Counts.{Derivative}
 use Rattle.lie_math.specs.LinearForm.{LinearForm, no_form}
@@ -39,38 +40,56 @@ got (z ∷ xs) zero x y h e = sym e
 got (z ∷ xs) (suc i) x y h e = got xs i x y (omega arith) e
 
 -- ---- halving
-abbrev IsBelow : ℕ → PlacedLead → Type 0
-IsBelow n x = x.lead.unknown < n
-
-abbrev IsFrom : ℕ → PlacedLead → Type 0
-IsFrom n x = n ≤ x.lead.unknown
-
-goes_below : (n : ℕ) (x y : PlacedLead) → GoesBefore x y → IsBelow n y → IsBelow n x
+goes_below : (n : ℕ) (x y : PlacedLead) → GoesBefore x y → y.lead.unknown < n → x.lead.unknown < n
 goes_below n x y (inl h) b = omega arith
 goes_below n x y (inr h) b = let e = h.0 in omega arith
 
-goes_from : (n : ℕ) (x y : PlacedLead) → GoesBefore x y → IsFrom n x → IsFrom n y
-goes_from n x y (inl h) b = omega arith
-goes_from n x y (inr h) b = let e = h.0 in omega arith
+goes_at : (x y : PlacedLead) (xs : List PlacedLead) (i : ℕ) → Every (GoesBefore y) xs → i < length xs → GoesBefore y (get_or xs i x)
+goes_at x y [] i a h = absurd (omega arith)
+goes_at x y (z ∷ xs) zero a h = a.0
+goes_at x y (z ∷ xs) (suc i) a h = goes_at x y xs i a.1 (omega arith)
 
-module _ (n : ℕ) (x : PlacedLead) where
-  goes_at : (y : PlacedLead) (xs : List PlacedLead) (i : ℕ) → Every (GoesBefore y) xs → i < length xs → GoesBefore y (get_or xs i x)
-  goes_at y [] i a h = absurd (omega arith)
-  goes_at y (z ∷ xs) zero a h = a.0
-  goes_at y (z ∷ xs) (suc i) a h = goes_at y xs i a.1 (omega arith)
+-- the leads of unknowns with lesser numbers stand first
+pub lesser_stand_first : (n : ℕ) (xs : List PlacedLead) → AreOrdered xs → IsPartitionedBy (λ (x : PlacedLead). ltb x.lead.unknown n) xs
+lesser_stand_first n [] o i j d le lt h = absurd (omega arith)
+lesser_stand_first n (y ∷ xs) o zero zero d le lt h = h
+lesser_stand_first n (y ∷ xs) o zero (suc j) d le lt h =
+    lt-ltb y.lead.unknown n (goes_below n y (get_or xs j d) (goes_at d y xs j o.0 (omega arith)) (ltb-true (get_or xs j d).lead.unknown n h))
+lesser_stand_first n (y ∷ xs) o (suc i) zero d le lt h = absurd (omega arith)
+lesser_stand_first n (y ∷ xs) o (suc i) (suc j) d le lt h = lesser_stand_first n xs o.1 i j d (omega arith) (omega arith) h
 
-  front : (xs : List PlacedLead) (i : ℕ) → AreOrdered xs → i < length xs → IsBelow n (get_or xs i x) → Every (IsBelow n) (take (suc i) xs)
-  front [] i o h b = absurd (omega arith)
-  front (y ∷ xs) zero o h b = (b, tt)
-  front (y ∷ xs) (suc i) o h b = (goes_below n y (get_or xs i x) (goes_at y xs i o.0 (omega arith)) b, front xs i o.1 (omega arith) b)
+-- what holds before a place, and from there on
+module _ {X : Type 0} (P : X → Type 0) where
+  pub every_before : (xs : List X) (i : ℕ) → i ≤ length xs → ((k : ℕ) (d : X) → k < i → P (get_or xs k d)) → Every P (take i xs)
+  every_before [] zero le h = tt
+  every_before [] (suc i) le h = absurd (omega arith)
+  every_before (x ∷ xs) zero le h = tt
+  every_before (x ∷ xs) (suc i) le h = (h 0 x (omega arith), every_before xs i (omega arith) (λ k d g. h (suc k) d (next k g)))
+    where
+      next : (k : ℕ) → k < i → suc k < suc i
+      next k g = omega arith
 
-  pub below_front : (xs : List PlacedLead) (i : ℕ) → AreOrdered xs → i < length xs → (get_or xs i x).lead.unknown < n → Every (λ (y : PlacedLead). y.lead.unknown < n) (take (i + 1) xs)
-  below_front xs i o h b = subst (λ k. Every (IsBelow n) (take k xs)) (sym (add-one i)) (front xs i o h b)
+  pub every_from : (xs : List X) (i : ℕ) → ((k : ℕ) (d : X) → i ≤ k → k < length xs → P (get_or xs k d)) → Every P (drop i xs)
+  every_from [] zero h = tt
+  every_from [] (suc i) h = tt
+  every_from (x ∷ xs) zero h = (h 0 x (omega arith) (omega arith), every_all xs (λ k d g. h (suc k) d (omega arith) (less k g)))
+    where
+      less : (k : ℕ) → k < length xs → suc k < length (x ∷ xs)
+      less k g = omega arith
 
-  pub from_back : (xs : List PlacedLead) (i : ℕ) → AreOrdered xs → i < length xs → n ≤ (get_or xs i x).lead.unknown → Every (λ (y : PlacedLead). n ≤ y.lead.unknown) (drop i xs)
-  from_back [] i o h b = absurd (omega arith)
-  from_back (y ∷ xs) zero o h b = (b, every-weaken (GoesBefore y) (IsFrom n) (λ z g. goes_from n y z g b) xs o.0)
-  from_back (y ∷ xs) (suc i) o h b = from_back xs i o.1 (omega arith) b
+      every_all : (ys : List X) → ((k : ℕ) (d : X) → k < length ys → P (get_or ys k d)) → Every P ys
+      every_all [] f = tt
+      every_all (y ∷ ys) f = (f 0 y (omega arith), every_all ys (λ k d g. f (suc k) d (more k g)))
+        where
+          more : (k : ℕ) → k < length ys → suc k < length (y ∷ ys)
+          more k g = omega arith
+  every_from (x ∷ xs) (suc i) h = every_from xs i (λ k d l g. h (suc k) d (later k l) (less k g))
+    where
+      later : (k : ℕ) → i ≤ k → suc i ≤ suc k
+      later k l = omega arith
+
+      less : (k : ℕ) → k < length xs → suc k < length (x ∷ xs)
+      less k g = omega arith
 
 -- ---- one lead more
 module _ (x : PlacedLead) where

@@ -45,7 +45,7 @@ pub fn derived_between(
 }
 
 /// The form derived so often by one variable.
-fn derived_often(
+pub fn derived_often(
     alloc: Global,
     eq: LinEq,
     unknowns: &[Unknown],

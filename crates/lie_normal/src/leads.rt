@@ -49,17 +49,7 @@ fn place_of(leads: &[PlacedLead], number: u64) -> usize
     ensures before { Every (λ x. x.lead.unknown < number) (take result leads.now) }
     ensures behind { Every (λ x. number ≤ x.lead.unknown) (drop result leads.now) }
 {
-    let mut low = 0;
-    let mut high = leads.len();
-    while low < high {
-        let middle = low + (high - low) / 2;
-        if u64::from(leads[middle].lead.unknown) < number {
-            low = middle + 1;
-        } else {
-            high = middle;
-        }
-    }
-    low
+    leads.partition_point(|lead| u64::from(lead.lead.unknown) < number)
 }
 
 /// The first lead that divides a derivative.
@@ -79,7 +69,7 @@ pub fn first_divisor(leads: &[PlacedLead], der: &Der) -> Option<PlacedLead>
 }
 
 /// Whether the second derivative is the first, derived as often or more often by each variable.
-fn divides(lead: &Der, der: &Der) -> bool
+pub fn divides(lead: &Der, der: &Der) -> bool
     ensures { IsTrue result ↔ Divides (derivative_of lead.now) (derivative_of der.now) }
 {
     if lead.unknown != der.unknown {

@@ -15,6 +15,8 @@ mod unknowns;
 pub use absolutes::absolute_terms;
 pub use combining::combine;
 pub use derivative::{derive, rises_high, sum_of_derivatives};
+pub use derivatives::{derived_between, derived_often};
+pub use leads::divides;
 pub use multiples::{Coefficient, put_multiple, sum_of_multiples};
 pub use normal_forms::normal_form;
 pub use unknowns::depends;

@@ -15,7 +15,7 @@ use Rattle.lie_ring.proofs.Fronts.{take_more}
 use Rattle.lie_form.specs.FormLimits.{IsFormCause}
 use Rattle.lie_replace.specs.Replacing.{IsJointCause}
 
-triples-append : (xs ys : List LinearForm) → triple_count_of_all (xs ++ ys) ≡ triple_count_of_all xs + triple_count_of_all ys
+pub triples-append : (xs ys : List LinearForm) → triple_count_of_all (xs ++ ys) ≡ triple_count_of_all xs + triple_count_of_all ys
 triples-append [] ys = nothing (triple_count_of_all ys)
   where
     nothing : (n : ℕ) → n ≡ 0 + n

@@ -1,8 +1,5 @@
-mod Elements
-mod SortedPlaces
 mod CleaningSteps
 mod Tidied
-mod AddedEquations
 mod DerivativesBy
 mod GrowingCoefficients
 mod DerivativeBounds
@@ -12,4 +9,4 @@ mod LastingEntries
 mod CarriedCauses
 mod IteratedSteps
 mod ReplacingSteps
-mod JointForms
+pub mod JointForms

@@ -18,7 +18,7 @@ use Rattle.lie_systems.proofs.Primitive.{primitive_normalised}
 use Rattle.lie_systems.proofs.Unique.{primitive-normalised}
 use Rattle.lie_systems.specs.Normalised.{derivative_alone, primitive, IsNormalised}
 use Rattle.lie_steps.specs.Tidying.{IsTidied}
-use Rattle.lie_replace.specs.Sorting.{Adds, IsEquationOf}
+use Rattle.lie_lin.specs.EquationLists.{Adds, IsEquationOf}
 
 alone_apart : (d : Derivative) → ¬ (derivative_alone d ≡ no_form)
 alone_apart d z = one_apart (sym (value-term forms d (constant (pos 1)) d ∙ ap (λ (r : Ordering). cond (is_eq r) (constant (pos 1)) 0ᴾ) (tied_itself derivative_cmp_total d)) ∙ ap (λ G. finite.value forms G d) z ∙ value-none forms d)

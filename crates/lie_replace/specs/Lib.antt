@@ -1,4 +1,3 @@
-pub mod Sorting
 pub mod Cleaning
 pub mod Replacing
 pub mod Growing

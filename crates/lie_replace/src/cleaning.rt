@@ -6,30 +6,31 @@ ghost use Rattle.lie_systems.specs.EquationOrder.{equation_cmp};
 ghost use Rattle.lie_systems.specs.Normalised.{IsNormalised};
 ghost use Rattle.lie_steps.specs.Tidying.{IsTidied};
 ghost use Rattle.lie_replace.specs.Cleaning.{taken_back, AreFilled};
-ghost use Rattle.lie_replace.specs.Sorting.{Adds, IsEquationOf, IsOneMore};
+ghost use Rattle.lie_lin.specs.EquationLists.{Adds, IsEquationOf, IsOneMore};
 
-use crate::sorting::put_equation;
 use lie_bytes::NoMemory;
-use lie_lin::{LinEq, lead, primitive};
+use lie_lin::{LinEq, insert_equation, lead, primitive};
 use std::alloc::Global;
 
-/// Puts the normalised equations of forms into their places in a list of normalised equations in order. Empty forms and doubles
-/// are dropped. Each is put in by halving. After an error the list is as it was.
+/// Puts the normalised equations of forms into their places in a list of normalised equations in order, and tells the places, one after
+/// the other as they were put in. Empty forms and doubles are dropped. Each is put in by halving. After an error the list is as it was.
 pub fn put_cleaned(
     equations: &mut Vec<LinEq>,
     alloc: Global,
     forms: &[LinEq],
-) -> Result<(), NoMemory>
+) -> Result<Vec<usize>, NoMemory>
     requires ordered { IsStrictlySortedBy equation_cmp equations.old.items }
     requires normalised { Every IsNormalised equations.old.items }
     ensures tidied { OnOk result (IsTidied (equations.old.items ++ forms.now) equations.new.items) }
     ensures ordered { IsStrictlySortedBy equation_cmp equations.new.items }
     ensures normalised { Every IsNormalised equations.new.items }
+    ensures filled { IfOk result (λ places. AreFilled places.items equations.new.items) }
+    ensures back { IfOk result (λ places. taken_back places.items equations.new.items ≡ equations.old.items) }
     ensures kept { IfErr result (λ _. equations.new.items ≡ equations.old.items) }
 {
     let mut places = Vec::new(alloc);
     match put_each(equations, alloc, forms, &mut places) {
-        Ok(()) => Ok(()),
+        Ok(()) => Ok(places),
         Err(fail) => {
             take_back(equations, places);
             Err(fail)
@@ -37,8 +38,8 @@ pub fn put_cleaned(
     }
 }
 
-/// Takes away what was put at these places, the last one first.
-fn take_back(equations: &mut Vec<LinEq>, mut places: Vec<usize>)
+/// Takes away what was put at these places one after the other, the last one first.
+pub fn take_back(equations: &mut Vec<LinEq>, mut places: Vec<usize>)
     requires { AreFilled places.items equations.old.items }
     ensures { equations.new.items ≡ taken_back places.items equations.old.items }
 {
@@ -106,7 +107,7 @@ fn put_normalised(
         None => Ok(None),
         Some(_) => {
             let eq = primitive(alloc, form)?;
-            put_equation(equations, alloc, eq)
+            insert_equation(equations, alloc, eq)
         }
     }
 }

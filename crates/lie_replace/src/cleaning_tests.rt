@@ -51,8 +51,8 @@ fn cleans(
     wanted: Vec<LinEq>,
 ) -> Result<bool, NoMemory> {
     let mut list = Vec::new(alloc);
-    put_cleaned(&mut list, alloc, first.as_slice())?;
-    put_cleaned(&mut list, alloc, added.as_slice())?;
+    let _ = put_cleaned(&mut list, alloc, first.as_slice())?;
+    let _ = put_cleaned(&mut list, alloc, added.as_slice())?;
     are_forms(alloc, list.as_slice(), wanted.as_slice())
 }
 

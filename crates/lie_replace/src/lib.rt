@@ -5,9 +5,8 @@ mod cleaning;
 mod iterated;
 mod lasting;
 mod replacing;
-mod sorting;
 
-pub use cleaning::put_cleaned;
+pub use cleaning::{put_cleaned, take_back};
 pub use replacing::{replace, replace_in_all};
 
 #[cfg(test)]

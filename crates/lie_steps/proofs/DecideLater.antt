@@ -52,6 +52,25 @@ module _ (n : ℕ) (S : LinearSystem) (valid : IsValid n S) where
   dependent_below : (f v : ℕ) → depends S.unknowns f v ≡ true → v < n
   dependent_below f v e = let p = dependent_of S.unknowns f v e in has_below n v (p.0).variables p.3 (every_contained (HasVariablesBelow n) S.unknowns p.0 valid.variables p.1).1
 
+  -- the derivative by a variable of no space is empty
+  not_below : (v : ℕ) → n ≤ v → ltb v n ≡ false
+  not_below v le = at (ltb v n) refl
+    where
+      at : (t : Bool) → ltb v n ≡ t → t ≡ false
+      at true e = absurd (let k = ltb-true v n e in omega arith)
+      at false e = refl
+
+  pub derivative_outside : (E : LinearForm) → IsFormOf n S.unknowns E → (v : ℕ) → n ≤ v → derivative S.unknowns v E ≡ no_form
+  unfolding derivative
+  derivative_outside E form v le =
+      sum_of_entries-same (finite_laws.adder forms) _ (λ d a. no_form) E.list
+      (every-weaken (λ (e : Derivative × WholePolynomial). IsOwned S.unknowns e.0 × IsIn (λ w. ltb w n) e.1) _ (λ e h. one e.0 e.1 (h.1 v (not_below v le)) (depends S.unknowns (e.0).unknown v) refl) E.list form)
+      ∙ sum_of_entries-nil (finite_laws.adder forms) E.list
+    where
+      one : (d : Derivative) (a : WholePolynomial) → FreeOf v a → (t : Bool) → depends S.unknowns d.unknown v ≡ t → form_term d (partial v a) +ᶠ cond t (form_term (raised v d) a) no_form ≡ no_form
+      one d a h true e = absurd (let lt = dependent_below d.unknown v e in omega arith)
+      one d a h false e = ap (λ x. x +ᶠ no_form) (ap (form_term d) (partial_of_free v a h) ∙ (term_additive forms).on_nil d) ∙ plus_idl forms no_form
+
   module _ (i : ℕ) (place : IsPlace S i) where
     form : IsFormOf n S.unknowns (equation S i)
     form = equation_form n S valid i place
@@ -72,7 +91,7 @@ module _ (n : ℕ) (S : LinearSystem) (valid : IsValid n S) where
         (both_decided (any_decided (λ (e : Derivative × WholePolynomial). depends S.unknowns (e.0).unknown v ≡ false) (λ e. bool_decided (depends S.unknowns (e.0).unknown v) false) (equation S i).list)
         (both_decided (at_most_decided (free_degree S.unknowns (equation S i) v) 31) (single_decided v))))
 
-    some_depends_below : (v : ℕ) → SomeDepends S.unknowns (equation S i) v → v < n
+    pub some_depends_below : (v : ℕ) → SomeDepends S.unknowns (equation S i) v → v < n
     some_depends_below v a = let x = any_with (λ (e : Derivative × WholePolynomial). depends S.unknowns (e.0).unknown v ≡ true) (λ (e : Derivative × WholePolynomial). IsOwned S.unknowns e.0 × IsIn (λ w. ltb w n) e.1) (equation S i).list form a in dependent_below ((x.0).0).unknown v x.2
 
     pub isolate_decided : Decided (AppliesIsolate S i)
@@ -105,27 +124,8 @@ module _ (n : ℕ) (S : LinearSystem) (valid : IsValid n S) where
         go (inl e) (N, k) = by e N k (form_decided N)
         go (inr m) x = inr (λ h. m (subst (λ (d : Derivative). depends S.unknowns d.unknown v ≡ false) (lead_unique (equation S i) (h.1).lead l (h.1).leads a) (h.1).free))
 
-    -- the derivative by a variable of no space is empty
-    not_below : (v : ℕ) → n ≤ v → ltb v n ≡ false
-    not_below v le = at (ltb v n) refl
-      where
-        at : (t : Bool) → ltb v n ≡ t → t ≡ false
-        at true e = absurd (let k = ltb-true v n e in omega arith)
-        at false e = refl
-
-    derivative_outside : (v : ℕ) → n ≤ v → derivative S.unknowns v (equation S i) ≡ no_form
-    unfolding derivative
-    derivative_outside v le =
-        sum_of_entries-same (finite_laws.adder forms) _ (λ d a. no_form) (equation S i).list
-        (every-weaken (λ (e : Derivative × WholePolynomial). IsOwned S.unknowns e.0 × IsIn (λ w. ltb w n) e.1) _ (λ e h. one e.0 e.1 (h.1 v (not_below v le)) (depends S.unknowns (e.0).unknown v) refl) (equation S i).list form)
-        ∙ sum_of_entries-nil (finite_laws.adder forms) (equation S i).list
-      where
-        one : (d : Derivative) (a : WholePolynomial) → FreeOf v a → (t : Bool) → depends S.unknowns d.unknown v ≡ t → form_term d (partial v a) +ᶠ cond t (form_term (raised v d) a) no_form ≡ no_form
-        one d a h true e = absurd (let lt = dependent_below d.unknown v e in omega arith)
-        one d a h false e = ap (λ x. x +ᶠ no_form) (ap (form_term d) (partial_of_free v a h) ∙ (term_additive forms).on_nil d) ∙ plus_idl forms no_form
-
-    foreign_outside : (v : ℕ) → n ≤ v → ¬ ((N : LinearForm) × IsForeignBy S i v N)
-    foreign_outside v le h = (h.1).some (normal_form_unique (h.1).normal no_form (subst (λ E. IsNormalForm S.unknowns S.equations E no_form) (sym (derivative_outside v le)) (done (λ d r. r.0 (value-none forms d)))))
+    pub foreign_outside : (v : ℕ) → n ≤ v → ¬ ((N : LinearForm) × IsForeignBy S i v N)
+    foreign_outside v le h = (h.1).some (normal_form_unique (h.1).normal no_form (subst (λ E. IsNormalForm S.unknowns S.equations E no_form) (sym (derivative_outside (equation S i) form v le)) (done (λ d r. r.0 (value-none forms d)))))
 
     pub foreign_decided : Decided (AppliesForeign S i)
     foreign_decided = go (lead_or_none (equation S i))

@@ -29,7 +29,7 @@ use Rattle.lie_steps.proofs.Searching.{search_reduction}
 use Rattle.lie_steps.proofs.Descents.{Descends, descends, all_descend, IsLess, measures, IsWithin, order_is_measured}
 
 -- what occurs in the normalised form occurs in the form
-occurs_before : (X : LinearForm) (q : Derivative) → Occurs q (primitive X) → Occurs q X
+pub occurs_before : (X : LinearForm) (q : Derivative) → Occurs q (primitive X) → Occurs q X
 occurs_before X q o =
     (coefficient_has (λ (e : Derivative × WholePolynomial). Occurs e.0 X × IsIn (λ v. true) e.1) (primitive X)
     (each-primitive (λ d. Occurs d X) (λ v. true) X (entries_of forms X (λ (e : Derivative × WholePolynomial). Occurs e.0 X × IsIn (λ v. true) e.1) (λ e is n. ((λ z. n (sym is ∙ z)), λ v out. absurd (true≢false out))))) q o).0

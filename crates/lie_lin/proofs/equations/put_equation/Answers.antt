@@ -1,4 +1,4 @@
-use Rattle.lie_jet.proofs.TotalSteps.{on_ok}
+use Rattle.lie_lin.proofs.AddedEquations.{also_added}
 use Rattle.lie_lin.proofs.EquationPlaces.{unless_also, unless_empty}
 use Rattle.lie_lin.proofs.SystemSteps.{empty_form, not_empty}
 use Rattle.lie_lin.proofs.equations.put_equation.Goals as goal
@@ -8,4 +8,6 @@ returns-then-terms-eq0-clause-put c = unless_empty c.args.eq c.args.equations.no
 
 pub returns-clause-put : goal.returns-clause-put
 returns-clause-put c =
-    on_ok c.insert_equation.result (unless_also c.args.eq c.args.equations.now.items c.insert_equation.new.equations.items (not_empty c.args.eq c.terms.result.now c.terms.ensures.list c.if-terms-eq0.false)) c.insert_equation.ensures.put
+    unless_also c.args.eq c.args.equations.now.items c.insert_equation.new.equations.items
+    (not_empty c.args.eq c.terms.result.now c.terms.ensures.list c.if-terms-eq0.false)
+    (also_added c.args.equations.now.items c.insert_equation.new.equations.items c.args.eq c.in_ok-insert_equation.ensures.added)

@@ -1,24 +1,22 @@
-use Rattle.std.proofs.Common.{◌≤◌, ◌<◌, ◌+◌, ◌-◌, ◌/◌, length, subst, arith}
-use Rattle.lie_normal.proofs.LeadOrder.{below_front, from_back}
+use Rattle.std.proofs.Common.{rules, arith, true, false, get_or, ltb, ltb-true, ltb-false, ◌≡◌, ◌<◌, ◌≤◌}
+use Rattle.std.specs.List.Sorted.{IsPartitionPoint}
+use Rattle.std.proofs.lemmas.List.Sorted.{IsPartitionPoint-from_clause}
+use Rattle.lie_normal.specs.declared.leads.PlacedLead.{PlacedLead}
+use Rattle.lie_normal.proofs.LeadOrder.{lesser_stand_first, every_before, every_from}
 use Rattle.lie_normal.proofs.leads.place_of.Goals as goal
 
-pub loop-low-preserved-then-from-number : goal.loop-low-preserved-then-from-number
-loop-low-preserved-then-from-number c =
-    let middle = c.loop-low.low + (c.loop-low.high - c.loop-low.low) / 2 in
-    let inside : middle < length c.args.leads.now = omega (arith, c.loop-low.invariant.inside) in record {
-      ordered = omega arith;
-      inside = c.loop-low.invariant.inside;
-      before = below_front c.args.number _ c.args.leads.now middle c.requires inside (subst (λ n. n < c.args.number) c.from.ensures c.if-from-number.true);
-      behind = c.loop-low.invariant.behind;
-    }
+point : (c : goal.After-partition_point) → IsPartitionPoint (λ (x : PlacedLead). ltb x.lead.unknown c.args.number ≡ true)
+    (λ (x : PlacedLead). ltb x.lead.unknown c.args.number ≡ false) c.args.leads.now c.partition_point.result
+point c =
+    IsPartitionPoint-from_clause (λ (x : PlacedLead). ltb x.lead.unknown c.args.number) c.args.leads.now c.partition_point.result
+    c.partition_point.ensures.partitioned (lesser_stand_first c.args.number c.args.leads.now c.requires) (λ a r f' k. search rules)
 
-pub loop-low-preserved : goal.loop-low-preserved
-loop-low-preserved c =
-    let middle = c.loop-low.low + (c.loop-low.high - c.loop-low.low) / 2 in
-    let inside : middle < length c.args.leads.now = omega (arith, c.loop-low.invariant.inside) in
-    let from : c.args.number ≤ c.from.result = omega (arith, c.if-from-number.false) in record {
-      ordered = omega arith;
-      inside = omega (arith, c.loop-low.invariant.inside);
-      before = c.loop-low.invariant.before;
-      behind = from_back c.args.number _ c.args.leads.now middle c.requires inside (subst (λ n. c.args.number ≤ n) c.from.ensures from);
-    }
+pub returns-clause-before : goal.returns-clause-before
+returns-clause-before c =
+    every_before (λ (x : PlacedLead). x.lead.unknown < c.args.number) c.args.leads.now c.partition_point.result c.partition_point.ensures.bound
+    (λ k d lt. ltb-true (get_or c.args.leads.now k d).lead.unknown c.args.number ((point c).0 k d (omega arith) lt))
+
+pub returns-clause-behind : goal.returns-clause-behind
+returns-clause-behind c =
+    every_from (λ (x : PlacedLead). c.args.number ≤ x.lead.unknown) c.args.leads.now c.partition_point.result
+    (λ k d le lt. ltb-false (get_or c.args.leads.now k d).lead.unknown c.args.number ((point c).1 k d le lt))

@@ -1,7 +1,7 @@
 use Rattle.std.proofs.Common.{◌∙◌, refl}
 use Rattle.lie_math.specs.LinearForm.{LinearForm}
-use Rattle.lie_replace.specs.Sorting.{IsEquationOf}
-use Rattle.lie_replace.proofs.AddedEquations.{adds_none, adds_more, adds_all}
+use Rattle.lie_lin.specs.EquationLists.{IsEquationOf}
+use Rattle.lie_lin.proofs.AddedEquations.{adds_none, adds_more, adds_all}
 use Rattle.lie_replace.proofs.cleaning.put_each.Goals as goal
 
 pub loop-form-init : goal.loop-form-init

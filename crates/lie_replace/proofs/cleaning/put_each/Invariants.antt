@@ -1,7 +1,7 @@
 use Rattle.std.proofs.Common.{◌≡◌, take}
 use Rattle.std.specs.List.{Any}
 use Rattle.lie_replace.specs.Cleaning.{taken_back, AreFilled}
-use Rattle.lie_replace.specs.Sorting.{Adds, IsEquationOf}
+use Rattle.lie_lin.specs.EquationLists.{Adds, IsEquationOf}
 use Rattle.lie_replace.proofs.cleaning.put_each.Given as goal
 
 abbrev pub invariant-loop-form : goal.invariant-loop-form

@@ -1,7 +1,7 @@
 use Rattle.std.proofs.Common.{◌≡◌, ◌∙◌, sym, ap, subst, subst₂, List, ℕ, ◌++◌, ◌∷◌, []}
 use Rattle.lie_math.specs.LinearForm.{LinearForm}
 use Rattle.lie_replace.specs.Cleaning.{taken_back, AreFilled}
-use Rattle.lie_replace.specs.Sorting.{IsOneMore}
+use Rattle.lie_lin.specs.EquationLists.{IsOneMore}
 use Rattle.lie_replace.proofs.CleaningSteps.{taken_back-push, filled-push}
 use Rattle.lie_replace.proofs.cleaning.put_noted.Goals as goal
 

@@ -1,7 +1,7 @@
 use Rattle.std.proofs.Common.{subst, sym}
 use Rattle.std.specs.List.Sorted.{IsStrictlySortedBy}
 use Rattle.lie_systems.specs.EquationOrder.{equation_cmp}
-use Rattle.lie_replace.proofs.AddedEquations.{no_equations_sorted}
+use Rattle.lie_lin.proofs.AddedEquations.{no_equations_sorted}
 use Rattle.lie_replace.proofs.cleaning_tests.cleans.Goals as goal
 
 pub put_cleaned-requires-clause-ordered : goal.put_cleaned-requires-clause-ordered

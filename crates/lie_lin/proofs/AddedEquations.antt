@@ -1,19 +1,81 @@
 -- Equations that are added one after the other.
-use Rattle.std.specs.Prelude.{◌≡◌, ℕ, zero, suc, ◌+◌, ◌<◌, ◌≤◌, ◌⊎◌, List, [], ◌∷◌, ◌++◌, length, take, get_or, slice_index_or}
+use Rattle.std.specs.Prelude.{◌≡◌, ℕ, zero, suc, ◌+◌, ◌<◌, ◌≤◌, ◌⊎◌, List, [], ◌∷◌, ◌++◌, length, insert, remove, take, get_or, slice_index_or}
 use Rattle.std.proofs.Common.{refl, sym, ap, subst, ◌∙◌, arith, inl, inr}
-use Rattle.std.specs.List.{Any}
+use Rattle.std.specs.List.{AllByRecursion as Every, Any, Contains}
 use Rattle.std.specs.List.Sorted.{IsStrictlySortedBy}
+use Rattle.lie_math.proofs.EveryElement.{every_contained, every_of_contained, every-weaken}
 use Rattle.lie_math.proofs.SomeElement.{any_head, any_tail, any_left, any_right}
 use Rattle.lie_math.specs.FiniteSum as finite
 use Rattle.lie_math.specs.FiniteSumLaws.{value-none}
 use Rattle.lie_math.specs.Counts.{Derivative}
 use Rattle.lie_math.specs.LinearForm.{forms, LinearForm, no_form}
 use Rattle.lie_systems.specs.EquationOrder.{equation_cmp}
+use Rattle.lie_systems.proofs.EquationOrder.{equation_cmp_total}
 use Rattle.lie_systems.specs.Leads.{IsLead}
 use Rattle.lie_systems.specs.Normalised.{primitive}
 use Rattle.lie_ring.proofs.Fronts.{all_taken, take_more}
-use Rattle.lie_replace.specs.Sorting.{Adds, IsEquationOf}
-use Rattle.lie_replace.proofs.SortedPlaces.{adds_same, adds_both, adds_present}
+use Rattle.lie_lin.specs.EquationLists.{IsInsertionPoint, IsOneMore, Adds, IsEquationOf, HasAlso}
+use Rattle.lie_lin.proofs.SortedPlaces.{every_insert, contains_insert, contains_inserted, sorted_insert}
+
+-- ---- one more element
+pub remove-insert : {X : Type 0} (xs : List X) (i : ℕ) (x : X) → i ≤ length xs → remove (insert xs i x) i ≡ xs
+remove-insert xs zero x h = refl
+remove-insert [] (suc i) x h = absurd (omega arith)
+remove-insert (y ∷ xs) (suc i) x h = ap (λ ys. y ∷ ys) (remove-insert xs i x (omega arith))
+
+pub length-inserted : {X : Type 0} (xs : List X) (i : ℕ) (x : X) → i ≤ length xs → i < length (insert xs i x)
+length-inserted xs zero x h = omega arith
+length-inserted [] (suc i) x h = absurd (omega arith)
+length-inserted (y ∷ xs) (suc i) x h = let r = length-inserted xs i x (omega arith) in omega arith
+
+pub one_more-insert : {X : Type 0} (xs : List X) (i : ℕ) (x : X) → i ≤ length xs → IsOneMore i xs (insert xs i x)
+one_more-insert xs i x h = record { within = length-inserted xs i x h; without = remove-insert xs i x h }
+
+-- ---- equations that are added
+pub adds_insert : (es : List LinearForm) (eq : LinearForm) (i : ℕ) → IsStrictlySortedBy equation_cmp es → IsInsertionPoint equation_cmp eq es i → Adds (λ e. e ≡ eq) es (insert es i eq)
+adds_insert es eq i s p = record {
+  ordered = sorted_insert equation_cmp equation_cmp_total es eq i s p.within p.above p.below;
+  kept = every_of_contained (Contains (insert es i eq)) es (λ e c. contains_insert es i eq e c);
+  added = λ e q. subst (Contains (insert es i eq)) (sym q) (contains_inserted es i eq);
+  alone = every_insert (λ e. Contains es e ⊎ (e ≡ eq)) es i eq (every_of_contained (λ e. Contains es e ⊎ (e ≡ eq)) es (λ e c. inl c)) (inr refl);
+}
+
+-- nothing is added that is not there
+pub adds_present : (P : LinearForm → Type 0) (es : List LinearForm) → IsStrictlySortedBy equation_cmp es → ((e : LinearForm) → P e → Contains es e) → Adds P es es
+adds_present P es s h = record {
+  ordered = s;
+  kept = every_of_contained (Contains es) es (λ e c. c);
+  added = h;
+  alone = every_of_contained (λ e. Contains es e ⊎ P e) es (λ e c. inl c);
+}
+
+pub adds_same : (P Q : LinearForm → Type 0) (es fs : List LinearForm) → ((e : LinearForm) → P e → Q e) → ((e : LinearForm) → Q e → P e) → Adds P es fs → Adds Q es fs
+adds_same P Q es fs f g h = record {
+  ordered = h.ordered;
+  kept = h.kept;
+  added = λ e q. h.added e (g e q);
+  alone = every-weaken (λ e. Contains es e ⊎ P e) (λ e. Contains es e ⊎ Q e) (λ e s. elim s [ inl c ↦ inl c | inr p ↦ inr (f e p) ]) fs h.alone;
+}
+
+pub adds_both : (P Q : LinearForm → Type 0) (es fs gs : List LinearForm) → Adds P es fs → Adds Q fs gs → Adds (λ e. P e ⊎ Q e) es gs
+adds_both P Q es fs gs h k = record {
+  ordered = k.ordered;
+  kept = every-weaken (Contains fs) (Contains gs) (λ e c. every_contained (Contains gs) fs e k.kept c) es h.kept;
+  added = λ e s. elim s [ inl p ↦ every_contained (Contains gs) fs e k.kept (h.added e p) | inr q ↦ k.added e q ];
+  alone = every-weaken (λ e. Contains fs e ⊎ Q e) (λ e. Contains es e ⊎ (P e ⊎ Q e)) (λ e s. elim s [
+    | inl c ↦ elim (every_contained (λ e. Contains es e ⊎ P e) fs e h.alone c) [ inl d ↦ inl d | inr p ↦ inr (inl p) ]
+    | inr q ↦ inr (inr q)
+  ]) gs k.alone;
+}
+
+pub also_added : (Es Ns : List LinearForm) (E : LinearForm) → Adds (λ e. e ≡ E) Es Ns → HasAlso E Es Ns
+also_added Es Ns E h = record {
+  ordered = h.ordered;
+  elements = λ N. (
+    λ c. elim (every_contained (λ e. Contains Es e ⊎ (e ≡ E)) Ns N h.alone c) [ inl d ↦ inr d | inr e ↦ inl (sym e) ],
+    λ s. elim s [ inl e ↦ h.added N (sym e) | inr d ↦ every_contained (Contains Ns) Es N h.kept d ],
+  );
+}
 
 -- ---- some element of a list
 module _ {X : Type 0} (P : X → Type 0) where
