@@ -1,22 +1,15 @@
+mod InnerVariables
 mod Bounds
 mod AppliedForms
 mod CoordinateForms
 mod DerivativesInZ
 mod ConditionSums
 mod ConditionSteps
-mod FewerTriples
-mod BoundedForms
 mod ReducedForms
 mod SortedLists
 mod OpeningEquations
 mod OpeningSteps
-mod SortedPlaces
-mod BucketSteps
-mod Restricted
-mod BucketLists
-mod PartForms
 mod EquationSteps
 mod ValidForms
 pub mod ValidOpening
-mod PartLimits
 mod OpeningLimits

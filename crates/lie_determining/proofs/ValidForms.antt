@@ -26,10 +26,10 @@ use Rattle.lie_systems.proofs.Primitive.{no_derivative}
 use Rattle.lie_lin.specs.Forms.{terms_at, coefficient_at}
 use Rattle.lie_lin.proofs.Gathering.{value-sum}
 use Rattle.lie_determining.specs.Equations.{IsDerivativeInZ, HasDerivativesInZ, IsNormalisedPart, part_of_form}
-use Rattle.lie_determining.specs.Parts.{triples_at, split_triples}
-use Rattle.lie_determining.proofs.PartForms.{sum_at}
+use Rattle.lie_parts.specs.Parts.{triples_at, split_triples}
+use Rattle.lie_parts.proofs.PartForms.{sum_at}
 use Rattle.lie_determining.proofs.SortedLists.{every_of}
-use Rattle.lie_determining.proofs.SortedPlaces.{every_at}
+use Rattle.lie_math.proofs.EveryElement.{every_picked}
 
 module _ (A : ℕ → Bool) where
   -- no variable outside A
@@ -148,4 +148,4 @@ module _ (S : Space) where
   pub normalised_part_is_in : (Es : List LinearForm) → Every (HasDerivativesInZ S) Es → (e : LinearForm) → IsNormalisedPart S Es e → IsFormIn (IsDerivativeInZ S) (is_in_z S) e
   normalised_part_is_in Es h e a =
       subst (IsFormIn (IsDerivativeInZ S) (is_in_z S)) (sym a.4.2)
-      (primitive_is_in (IsDerivativeInZ S) (is_in_z S) (part_of_form S a.1 a.4.0) a.4.1 (part_is_in a.1 a.4.0 (subst (HasDerivativesInZ S) a.3 (every_at (HasDerivativesInZ S) Es a.0 a.1 a.2 h))))
+      (primitive_is_in (IsDerivativeInZ S) (is_in_z S) (part_of_form S a.1 a.4.0) a.4.1 (part_is_in a.1 a.4.0 (subst (HasDerivativesInZ S) a.3 (every_picked (HasDerivativesInZ S) Es a.0 a.1 a.2 h).0)))

@@ -2,6 +2,5 @@ pub mod AppliedForms
 pub mod Conditions
 pub mod Equations
 pub mod Openings
-pub mod Parts
 pub mod SymbolicBulks
 pub mod Laws

@@ -18,6 +18,7 @@ ghost use Rattle.lie_reduce.specs.SolvedRule.{IsSolvedRule};
 ghost use Rattle.lie_reduce.specs.Reductions.{CanReduce};
 ghost use Rattle.std.specs.List.{AllByRecursion as Every, Contains};
 ghost use Rattle.lie_determining.specs.SymbolicBulks.{symbolic_application_bulk};
+ghost use Rattle.lie_jet.specs.Limits.{greatest_written_order};
 
 use crate::symbolic_application::symbolic_application;
 use crate::symbolic_reduction::symbolic_reduction;
@@ -56,7 +57,7 @@ fn applied(
     requires rule { IsSolvedRule space rule.now }
     requires inside { Contains (solved_equations space rules.now) (solved_equation space rule.now) }
     requires absolutes { solved_equation space absolutes.now ≡ absolute_equation (solved_equation space rule.now) }
-    requires order { greatest_order_of space (solved_equations space rules.now) ≤ 6 }
+    requires order { greatest_order_of space (solved_equations space rules.now) ≤ greatest_written_order }
     requires forms { AreCoordinateForms space (solved_equations space rules.now) forms.now }
     requires absolute_forms { absolute_forms.now ≡ map (each_coefficient absolute) forms.now }
     ensures value { IfOk result (λ made. made ≡ application_of space (solved_equations space rules.now) (solved_equation space rule.now)) }
@@ -85,7 +86,7 @@ fn condition(
     requires absolutes { solved_equations space absolutes.now ≡ absolute_equations (solved_equations space rules.now) }
     requires ready { CanReduce space absolutes.now }
     requires place { place < length rules.now }
-    requires order { greatest_order_of space (solved_equations space rules.now) ≤ 6 }
+    requires order { greatest_order_of space (solved_equations space rules.now) ≤ greatest_written_order }
     requires forms { AreCoordinateForms space (solved_equations space rules.now) forms.now }
     requires absolute_forms { absolute_forms.now ≡ map (each_coefficient absolute) forms.now }
     ensures value { IfOk result (λ made. (d : ARule) → made ≡ condition_of space (solved_equations space rules.now)

@@ -5,19 +5,17 @@ ghost use Rattle.std.specs.List.Sorted.{IsStrictlySortedBy};
 ghost use Rattle.lie_systems.specs.Bulk.{bulk, system_triple_count, triple_count_of_all, IsFormWithinLimits};
 ghost use Rattle.lie_systems.specs.EquationOrder.{equation_cmp};
 ghost use Rattle.lie_systems.specs.Triples.{sum_of_triples};
+ghost use Rattle.lie_lin.specs.EquationLists.{Adds, IsEquationOf};
 ghost use Rattle.lie_lin.specs.Forms.{triples_of};
 ghost use Rattle.lie_determining.specs.Equations.{HasDerivativesInZ, AreEquationsOf, IsPartOf, IsSystemOf, IsSystemCause};
-ghost use Rattle.lie_determining.specs.Parts.{Adds, IsEquationOf};
 
-use crate::buckets::Bucket;
 use crate::parts::{buckets_of, count_z};
-use crate::sorting::put_equation;
-use crate::sums::sum_of;
 use crate::unknowns::{general, unknowns};
 use lie_bytes::NoMemory;
 use lie_form::SymForm;
 use lie_jet::{Der, Space};
-use lie_lin::{LinEq, LinSystem, form_triple_count, lead, primitive};
+use lie_lin::{LinEq, LinSystem, form_triple_count, insert_equation, lead, primitive};
+use lie_parts::{Bucket, sum_of};
 use lie_ring::{Mono, PastKind, PolyFail, Whole};
 use std::alloc::Global;
 
@@ -39,7 +37,8 @@ fn put_part(
         None => Ok(()),
         Some(_) => {
             let eq = primitive(alloc, &part)?;
-            put_equation(equations, alloc, eq)
+            let _ = insert_equation(equations, alloc, eq)?;
+            Ok(())
         }
     }
 }

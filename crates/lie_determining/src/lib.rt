@@ -1,14 +1,11 @@
 //! The determining equations of a solved system: of all fields that meet its invariance condition.
 #![tactic(auto)]
 
-mod buckets;
 mod conditions;
 mod equations;
 pub mod laws;
 mod opening;
 mod parts;
-mod sorting;
-mod sums;
 mod symbolic_application;
 mod symbolic_reduction;
 mod unknowns;

@@ -7,10 +7,10 @@ ghost use Rattle.lie_jet.specs.Derivatives.{derivative_of};
 ghost use Rattle.lie_lin.specs.Systems.{has_bit, unknown_of};
 
 use crate::parts::count_z;
-use crate::sums::sum_of;
 use lie_bytes::NoMemory;
 use lie_jet::{Der, Space};
 use lie_lin::{LinEq, Unknown};
+use lie_parts::sum_of;
 use lie_ring::{Mono, Ring, Whole};
 use std::alloc::Global;
 

@@ -1,8 +1,9 @@
 use Rattle.std.proofs.Common.{arith, sym, subst, List, []}
 use Rattle.lie_math.specs.LinearForm.{LinearForm}
 use Rattle.lie_determining.specs.Equations.{IsPartOf, IsNormalisedPart}
-use Rattle.lie_determining.specs.Parts.{Adds}
-use Rattle.lie_determining.proofs.EquationSteps.{adds_more, adds_none, adds_all, equations_are, no_equations_sorted}
+use Rattle.lie_lin.specs.EquationLists.{Adds}
+use Rattle.lie_lin.proofs.AddedEquations.{adds_more, adds_none, adds_all, no_equations_sorted}
+use Rattle.lie_determining.proofs.EquationSteps.{equations_are}
 use Rattle.lie_determining.proofs.equations.equations_of.Goals as goal
 
 pub loop-condition-init : goal.loop-condition-init

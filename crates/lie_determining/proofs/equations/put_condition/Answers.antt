@@ -4,9 +4,11 @@ use Rattle.lie_systems.specs.Bulk.{bulk, IsFormWithinLimits}
 use Rattle.std.proofs.lemmas.Result.{on_ok_weaker}
 use Rattle.lie_systems.specs.Triples.{sum_of_triples}
 use Rattle.lie_lin.specs.Forms.{triples_of}
-use Rattle.lie_determining.specs.declared.buckets.Bucket.{Bucket}
-use Rattle.lie_determining.specs.Parts.{Adds, IsEquationOf}
-use Rattle.lie_determining.proofs.EquationSteps.{adds_condition, buckets_within}
+use Rattle.lie_parts.specs.declared.buckets.Bucket.{Bucket}
+use Rattle.lie_lin.specs.EquationLists.{Adds, IsEquationOf}
+use Rattle.lie_parts.proofs.BucketParts.{buckets_within}
+use Rattle.lie_geometry.specs.Prolongation.{is_in_z}
+use Rattle.lie_determining.proofs.EquationSteps.{adds_condition}
 use Rattle.lie_determining.proofs.equations.put_condition.Goals as goal
 
 pub returns : goal.returns
@@ -19,4 +21,4 @@ returns c =
 pub put_parts-requires-clause-limits : goal.put_parts-requires-clause-limits
 put_parts-requires-clause-limits c =
     subst (λ (bs : List Bucket). Every (λ (b : Bucket). IsFormWithinLimits (bulk (triples_of b.triples.items))) bs) (sym c.as_slice.ensures.value)
-    (buckets_within c.args.space c.args.condition.now c.in_ok-buckets.buckets.items c.in_ok-buckets.ensures c.requires.limits)
+    (buckets_within (is_in_z c.args.space) c.args.condition.now c.in_ok-buckets.buckets.items c.in_ok-buckets.ensures c.requires.limits)

@@ -4,9 +4,9 @@ use Rattle.lie_math.specs.Monomial.{Monomial}
 use Rattle.lie_jet.specs.declared.derivative.Der.{Der}
 use Rattle.lie_systems.specs.Triples.{sum_of_triples}
 use Rattle.lie_lin.specs.Forms.{triples_of}
-use Rattle.lie_determining.specs.declared.buckets.Bucket.{Bucket}
-use Rattle.lie_determining.specs.Parts.{Adds, IsEquationOf}
-use Rattle.lie_determining.proofs.EquationSteps.{adds_more, adds_none, adds_all}
+use Rattle.lie_parts.specs.declared.buckets.Bucket.{Bucket}
+use Rattle.lie_lin.specs.EquationLists.{Adds, IsEquationOf}
+use Rattle.lie_lin.proofs.AddedEquations.{adds_more, adds_none, adds_all}
 use Rattle.lie_determining.proofs.equations.put_parts.Goals as goal
 
 pub loop-bucket-init : goal.loop-bucket-init

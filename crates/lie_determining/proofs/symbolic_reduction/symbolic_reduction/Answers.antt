@@ -9,7 +9,7 @@ use Rattle.lie_solved.specs.SolvedForms.{solved_equations}
 use Rattle.lie_determining.specs.SymbolicBulks.{degree_in_form, symbolic_reduction_bulk}
 use Rattle.lie_reduce.proofs.AbsoluteRules.{can_reduce}
 use Rattle.lie_determining.proofs.ReducedForms.{bulk_is, bulk_cause, form_bound}
-use Rattle.lie_determining.proofs.BoundedForms.{bounded_cause}
+use Rattle.lie_parts.proofs.BoundedForms.{bounded_cause}
 use Rattle.lie_reduce.proofs.ReductionSteps.{reduction_bounded}
 use Rattle.lie_determining.proofs.symbolic_reduction.symbolic_reduction.Goals as goal
 

@@ -1,0 +1,7 @@
+use Rattle.std.proofs.Common.{◌≡◌, take, not}
+use Rattle.lie_parts.specs.Parts.{is_inside}
+use Rattle.lie_parts.proofs.Restricted.{pairs_in}
+use Rattle.lie_parts.proofs.parts.outer.Given as goal
+
+abbrev pub invariant-loop-pair : goal.invariant-loop-pair
+invariant-loop-pair l = l.pairs.items ≡ pairs_in (λ v. not (is_inside l.inside v)) (take l.pair-index l.pair-items)
