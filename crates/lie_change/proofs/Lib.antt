@@ -1,0 +1,12 @@
+mod FilteredElements
+mod FreeForms
+mod TidiedLists
+mod SystemEnds
+mod CountSteps
+mod MovedPlaces
+mod ReplacedWorks
+mod CommonNumbers
+mod MentionSteps
+mod ChangedFields
+mod ChangedSystems
+mod Eliminations

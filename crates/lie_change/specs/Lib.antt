@@ -1,0 +1,4 @@
+pub mod Tried
+pub mod Ends
+pub mod Lists
+pub mod Tested
