@@ -1,0 +1,6 @@
+pub mod WholeIdentities
+pub mod LowestFractions
+pub mod ExactAnswers
+pub mod KeptTerms
+pub mod IntegralNumbers
+pub mod IntegralForms

@@ -1,0 +1,4 @@
+pub mod Powers
+pub mod LowestTerms
+pub mod Solutions
+pub mod IntegrableForms
