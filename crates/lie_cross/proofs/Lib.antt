@@ -1,0 +1,14 @@
+mod ReducibleForms
+mod ReducedEquations
+mod AddedForms
+mod PassedVariables
+mod ForeignForms
+mod CommonMultiples
+mod CrossedForms
+mod EarliestForms
+mod OuterParts
+mod FreedForms
+mod IsolatedForms
+mod DependentUnknowns
+mod FreeDegrees
+pub mod TestedRules
