@@ -1,0 +1,4 @@
+pub mod RuleNames
+pub mod Places
+pub mod Attempts
+pub mod Runs
