@@ -8,11 +8,11 @@ ghost use Rattle.lie_solved.specs.SolvedRules.{AreSolvedRules};
 ghost use Rattle.lie_check.specs.Actions.{AreActionsWithin, IsActionCause};
 ghost use Rattle.lie_check.specs.Verdicts.{IsVerdict, next_verdict};
 
-use crate::coefficients::coefficients_up_to;
+use crate::coefficients::coefficients_among;
 use crate::remainders::remainder;
 use crate::verdict::Verdict;
 use lie_jet::{Field, JetPoly, Space};
-use lie_reduce::{applied_field, greatest_order};
+use lie_reduce::{applied_field, greatest_order, occurring_numbers};
 use lie_ring::PolyFail;
 use lie_solved::{LeadRule, Solved};
 use std::alloc::Global;
@@ -46,7 +46,8 @@ fn verdict_of(
     ensures past { IfErr result (IsActionCause space (solved_equations space rules.now) (component field.now)) }
 {
     let order = greatest_order(alloc, space, rules)?;
-    let coefficients = coefficients_up_to(alloc, space, field, order)?;
+    let numbers = occurring_numbers(alloc, space, rules)?;
+    let coefficients = coefficients_among(alloc, space, field, order, numbers.as_slice())?;
     let mut verdict = Verdict::Yes;
     for (i, rule) in rules.iter().enumerate() {
         let applied = applied_field(alloc, space, rule, coefficients.as_slice())?;

@@ -9,7 +9,7 @@ ghost use Rattle.lie_reduce.specs.Bulks.{reduction_bulk};
 ghost use Rattle.lie_reduce.specs.Reductions.{CanReduce};
 
 use lie_jet::{JetPoly, Space, absolute_polynomial};
-use lie_reduce::{absolute_rules, known_within_limits, reduced_all};
+use lie_reduce::{absolute_rules, reduced_all};
 use lie_ring::PolyFail;
 use lie_solved::LeadRule;
 use std::alloc::Global;
@@ -29,7 +29,7 @@ pub fn remainder(
     let absolutes = absolute_rules(alloc, rules)?;
     let absolute = absolute_polynomial(alloc, &applied)?;
     let bulk = alone(reduced_all(alloc, space, absolutes.as_slice(), &[absolute])?);
-    known_within_limits(&bulk);
+    bulk.is_within_limits();
     Ok(alone(reduced_all(alloc, space, rules, &[applied])?))
 }
 

@@ -3,3 +3,5 @@ pub mod Causes
 pub mod Coefficients
 pub mod Multiples
 pub mod Recursion
+pub mod FieldBounds
+pub mod FieldNumbers

@@ -1,1 +1,2 @@
 pub mod Bulks
+pub mod FieldBounds

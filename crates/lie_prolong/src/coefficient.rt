@@ -9,10 +9,12 @@ ghost use Rattle.lie_geometry.specs.Coordinates.{coordinates_up_to, number as nu
 ghost use Rattle.lie_geometry.specs.Invariance.{IsFieldOn};
 ghost use Rattle.lie_geometry.specs.Prolongation.{total_derivative, coefficient_at};
 ghost use Rattle.lie_ring.specs.Causes.{IsCause};
+ghost use Rattle.lie_jet.specs.Limits.{greatest_jet_order};
 ghost use Rattle.lie_jet.specs.Jets.{coordinate_of, IsJet, IsSmall};
 ghost use Rattle.lie_prolong.specs.Bulks.{absolute_field as absolute_field_of, multiples, bulk_at};
 ghost use Rattle.lie_jet.specs.JetLists.{AreFirstValues};
 
+use lie_bytes::NoMemory;
 use lie_jet::{
     Field, Jet, JetPoly, Space, absolute_polynomial, jet_number, lowered, raise_jet, total,
 };
@@ -31,7 +33,7 @@ pub fn coefficient(
     requires field { IsFieldOn space field.now }
     requires absolute { absolute_field.now ≡ absolute_field_of field.now }
     requires before { AreFirstValues space (coefficient_at space (component field.now)) before.now }
-    requires jet { IsJet space 12 jet.now }
+    requires jet { IsJet space greatest_jet_order jet.now }
     requires next { number_of space (coordinate_of space jet.now) ≡ space.p + length before.now }
     ensures coefficient { IfOk result (λ made. made ≡ coefficient_at space (component field.now) (coordinate_of space jet.now)) }
     ensures fits { OnOk result (IsWithinLimits (bulk_at space (component field.now) (coordinate_of space jet.now))) }
@@ -98,7 +100,33 @@ fn derived(
         Whole::one(),
     )?;
     bulk.is_within_limits();
-    step(alloc, space, field, k, jet, before, Whole::one().neg())
+    Ok(step_within_limits(alloc, space, field, k, jet, before)?)
+}
+
+/// The step of the recursion, truly. No limit is passed, since the step with absolute values and plus signs, in which nothing cancels, is
+/// within them.
+pub fn step_within_limits(
+    alloc: Global,
+    space: Space,
+    field: &Field,
+    k: u8,
+    jet: &Jet,
+    before: &JetPoly,
+) -> Result<JetPoly, NoMemory>
+    requires within { k < space.p }
+    requires field { IsFieldOn space field.now }
+    requires jet { IsJet space 11 jet.now }
+    requires low { IsIn (is_below (coordinates_up_to space 11)) before.now }
+    requires limits { IsWithinLimits (total_derivative space k (absolute before.now) +ᴾ multiples space
+        (λ i. absolute (component field.now i)) k jet.now.dep (take space.p jet.now.counts)) }
+    ensures { IfOk result (λ made. made ≡ total_derivative space k before.now +ᴾ negᴾ
+        (multiples space (component field.now) k jet.now.dep (take space.p jet.now.counts))) }
+{
+    match step(alloc, space, field, k, jet, before, Whole::one().neg()) {
+        Ok(made) => Ok(made),
+        Err(PolyFail::NoMemory) => Err(NoMemory),
+        Err(PolyFail::Past(_)) => unreachable!(),
+    }
 }
 
 /// The total derivative by `k`, plus the sign, 1 or -1, times the sum of the multiples.

@@ -6,6 +6,7 @@ ghost use Rattle.lie_geometry.specs.Invariance.{IsFieldOn};
 ghost use Rattle.lie_geometry.specs.Prolongation.{coefficient_at};
 ghost use Rattle.lie_ring.specs.Causes.{IsCause};
 ghost use Rattle.lie_prolong.specs.Bulks.{bulk_at};
+ghost use Rattle.lie_jet.specs.Limits.{greatest_written_order};
 ghost use Rattle.lie_jet.specs.JetLists.{AreValuesUpTo, HoldsUpTo, ComesFirst};
 
 use crate::absolute::absolute_field;
@@ -26,7 +27,7 @@ pub fn prolong_field(
     field: &Field,
     order: u8,
 ) -> Result<Vec<(Jet, JetPoly)>, PolyFail>
-    requires low { order ≤ 6 }
+    requires low { order ≤ greatest_written_order }
     requires field { IsFieldOn space field.now }
     ensures coefficients { IfOk result (λ made. AreValuesUpTo space order (coefficient_at space (component field.now)) made.items) }
     ensures fits { OnOk result (HoldsUpTo space order (λ c. IsWithinLimits (bulk_at space (component field.now) c))) }

@@ -6,7 +6,7 @@ ghost use Rattle.lie_math.proofs.Kept.{pairs_in};
 ghost use Rattle.lie_geometry.specs.Coordinates.{Space as SpaceOf};
 ghost use Rattle.lie_geometry.specs.Invariance.{IsFieldOn};
 
-use crate::prolong_field;
+use crate::{bounded_coefficient, is_bounded_field, prolong_field};
 use lie_jet::{Field, Jet, JetPoly, Space};
 use lie_ring::{Mono, PastKind, PolyFail, Polynomial, Ring, Whole};
 use std::alloc::Global;
@@ -185,5 +185,56 @@ fn past_where_the_bulk_is(rt: HostRuntime) -> Result<(), Fail> {
     assert_eq!(rt; fail, Some(PolyFail::Past(PastKind::Coefficient)));
     let made = prolong_field(alloc, space, &dilation(alloc, (1 << 126) - 1)?, 1)?;
     assert!(rt; is_coefficient(alloc, &made[1], 0, [1, 0, 0, 0], &[])?);
+    Ok(())
+}
+
+/// x to a power, for d_x alone.
+fn power(alloc: Global, exponent: u32) -> Result<Field, Fail> {
+    field_of_two(
+        alloc,
+        part(alloc, 2, &[(0, exponent)], 1)?,
+        part(alloc, 2, &[], 0)?,
+    )
+}
+
+#[test]
+fn bounded_by_its_own_numbers(rt: HostRuntime) -> Result<(), Fail> {
+    let alloc = rt.alloc();
+    let space = Space { p: 1, q: 1 };
+    // The bound of the norms is the number itself, and one order above three times that.
+    assert!(rt; is_bounded_field(alloc, space, &dilation(alloc, 1_000_000)?, 0)?);
+    assert!(rt; !is_bounded_field(alloc, space, &dilation(alloc, 1_000_001)?, 0)?);
+    assert!(rt; is_bounded_field(alloc, space, &dilation(alloc, -333_333)?, 1)?);
+    assert!(rt; !is_bounded_field(alloc, space, &dilation(alloc, -333_334)?, 1)?);
+    // The bound of the degrees is one more than the exponent.
+    assert!(rt; is_bounded_field(alloc, space, &power(alloc, 65_534)?, 0)?);
+    assert!(rt; !is_bounded_field(alloc, space, &power(alloc, 65_535)?, 0)?);
+    Ok(())
+}
+
+#[test]
+fn one_coefficient_alone(rt: HostRuntime) -> Result<(), Fail> {
+    let alloc = rt.alloc();
+    let space = Space { p: 1, q: 1 };
+    let field = field_of_two(
+        alloc,
+        part(alloc, 2, &[(1, 1)], 1)?,
+        part(alloc, 2, &[], 0)?,
+    )?;
+    let jet = Jet {
+        dep: 0,
+        counts: [2, 0, 0, 0],
+    };
+    assert!(rt; is_bounded_field(alloc, space, &field, 2)?);
+    let made = bounded_coefficient(alloc, space, &field, &jet)?;
+    assert!(rt;
+        is_coefficient(
+            alloc,
+            &(jet, made),
+            0,
+            [2, 0, 0, 0],
+            &[(&[(2, 1), (3, 1)], -3)]
+        )?
+    );
     Ok(())
 }

@@ -10,5 +10,5 @@ loop-i-preserved c =
     let q : c.space.inside.p ≡ c.args.space.p = ap (λ (s : Space). s.p) c.space.view_is in
     let lt : c.loop-i.i < c.args.space.p = let t = c.loop-i-test.true in omega arith in
     let low : c.loop-i.i < length c.args.field.now.parts = let n = c.requires.size in omega arith in
-    first_more c.args.space (component c.args.field.now) c.loop-i.i c.from.result c.index-parts-from.result c.index-parts-from.result c.loop-i.made.items c.push_copy.new.made.items lt c.loop-i.invariant c.in_ok-push_copy.ensures c.from.ensures
+    first_more c.args.space (component c.args.field.now) c.args.numbers.now c.loop-i.i c.from.result c.index-parts-from.result c.loop-i.made.items c.push_copy.new.made.items lt c.loop-i.invariant c.in_ok-push_copy.ensures c.from.ensures
     (component_read c.args.field.now c.parts.result.now c.loop-i.i c.from-in-loop-i.result c.index-parts-from.result c.parts.ensures c.from-in-loop-i.ensures low c.index-parts-from.is)

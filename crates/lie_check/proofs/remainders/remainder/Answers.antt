@@ -28,4 +28,4 @@ returns-clause-fits c =
     subst IsWithinLimits
     (c.alone-bulk.ensures _ c.in_ok-reduced_all.ensures.reduced
     ∙ sized_value (solved_equations c.args.space c.args.rules.now) (solved_equations c.args.space c.as_slice.result.now) c.args.applied c.in_ok-absolute.absolute (ap (solved_equations c.args.space) c.as_slice.ensures.value ∙ c.in_ok-absolutes.ensures.equations c.args.space) c.in_ok-absolute.ensures.absolute)
-    c.known_within_limits.ensures
+    c.is_within_limits.ensures

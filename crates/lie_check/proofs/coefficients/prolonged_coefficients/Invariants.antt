@@ -1,0 +1,7 @@
+use Rattle.std.specs.Prelude.{◌≡◌, ◌+◌}
+use Rattle.lie_math.specs.VectorField.{component}
+use Rattle.lie_check.specs.Coefficients.{coefficients_among}
+use Rattle.lie_check.proofs.coefficients.prolonged_coefficients.Given as goal
+
+abbrev pub invariant-loop-value : goal.invariant-loop-value
+invariant-loop-value l = l.made.items ≡ coefficients_among l.space (component l.field) l.numbers (l.space.p + l.value-index)
