@@ -1,30 +1,66 @@
--- The canonical text of the system of a file is a file of it, with its leads.
-use Rattle.std.specs.Prelude.{ℕ, ◌+◌, ◌≡◌, ◌≤◌, ◌<◌, ◌==◌, nat_le, Bool, true, false, ◌&&◌, ◌||◌, if◌then◌else◌, List, [], ◌∷◌, ◌++◌, length, map, take, drop, codes, Option, Some, None, refl}
-use Rattle.std.specs.List.{All, flat_map, list_any, AllByRecursion as Every}
+-- The canonical text of a written system is a file of it, with its leads.
+use Rattle.std.specs.Prelude.{
+  ℕ,
+  ◌+◌,
+  ◌≡◌,
+  ◌≤◌,
+  ◌<◌,
+  ◌==◌,
+  nat_le,
+  Bool,
+  true,
+  false,
+  ◌&&◌,
+  ◌||◌,
+  if◌then◌else◌,
+  List,
+  [],
+  ◌∷◌,
+  ◌++◌,
+  length,
+  map,
+  take,
+  drop,
+  codes,
+  Option,
+  Some,
+  None,
+  IfSome,
+  refl,
+}
+use Rattle.std.specs.List.{All, flat_map, AllByRecursion as Every}
 use Rattle.std.proofs.Common.{sym, ap, ap₂, subst, ◌∙◌, arith, append_assoc}
 use Rattle.std.proofs.Math.Seq.{take-append_seam, drop-append_seam}
 use Rattle.std.proofs.lemmas.Bool.Decides.{nat_tests}
 use Rattle.std.proofs.lemmas.List.Elements.{All-from_recursion}
-use Rattle.std.proofs.lemmas.List.{append-nil, length-append, length-map}
+use Rattle.std.proofs.lemmas.List.{append-nil, length-append, length-map, length-take-le, length-drop, take-append-drop}
 use Rattle.lie_geometry.specs.Coordinates.{Space, Coordinate}
 use Rattle.lie_jet.specs.Jets.{IsSmall}
 use Rattle.lie_canonical.specs.CanonicalText.{polynomial_text, right_side, sides_text, equation_text, canonical_text}
 use Rattle.lie_system.specs.LeadsAlone.{lead_alone, lead_or, with_lead, with_leads}
 use Rattle.lie_system.specs.Systems.{EquationRead, SystemRead}
+use Rattle.lie_system.specs.Written.{IsLow, IsWritten, AreWritten, HasRoomBeside, HasWrittenSides, IsWrittenSystem}
 use Rattle.lie_print.specs.Printing.{names_line, coordinate_text}
-use Rattle.lie_canonical.specs.RightSides.{IsOfFile}
-use Rattle.lie_scan.specs.SumGrammar.{HasLead, IsEquation}
-use Rattle.lie_file.specs.FileGrammar.{AreEquations, AreSystem, begins_line_end, is_allowed, AreAllowed, IsFile}
+use Rattle.lie_scan.specs.SumGrammar.{IsEquation}
+use Rattle.lie_file.specs.FileGrammar.{AreEquations, begins_line_end, is_allowed, AreAllowed, IsFile}
 use Rattle.lie_scan.proofs.Blanks.{no_blanks, and_true}
-use Rattle.lie_scan.proofs.FileCoordinates.{coordinate_good}
-use Rattle.lie_file.proofs.WellNamed.{well_named}
+use Rattle.lie_file.proofs.DistinctNames.{AreDistinct, distinct_alone}
 use Rattle.lie_canonical.proofs.CanonicalTerms.{diff_low, right_low, read_small}
 use Rattle.lie_canonical.proofs.CanonicalLeads.{unsolved_lead}
-use Rattle.lie_canonical.proofs.PrintedBytes.{ArePlain, join, names_plain, plain_names, plain_coordinate, plain_sum, content_line, allowed_lines}
-use Rattle.lie_canonical.proofs.PrintedCoordinates.{AreDistinct}
+use Rattle.lie_canonical.proofs.PrintedBytes.{
+  ArePlain,
+  join,
+  names_plain,
+  plain_names,
+  plain_coordinate,
+  plain_sum,
+  content_line,
+  allowed_lines,
+}
+use Rattle.lie_canonical.proofs.DistinctLetters.{all_distinct, distinct_parts}
 use Rattle.lie_canonical.proofs.PrintedEquations.{solved_is, unsolved_is}
 use Rattle.lie_canonical.proofs.PrintedFiles.{IsContentLine, contents_of_lines}
-use Rattle.lie_canonical.proofs.PrintedLines.{header_is, names_line_is, end_is, line_distinct}
+use Rattle.lie_canonical.proofs.PrintedLines.{header_is, names_line_is, end_is}
 use Rattle.lie_canonical.proofs.PrintedSizes.{solved_small, unsolved_small}
 
 -- ---- lines
@@ -64,50 +100,73 @@ module _ (S : Space) (small : IsSmall S) (ind dep : List ℕ) (p : S.p ≡ lengt
   many : length (ind ++ dep) ≡ S.p + S.q
   many = let l = length-append ind dep in omega arith
 
-  module _ (text : List ℕ) (e : EquationRead) (h : IsEquation S (ind ++ dep) text e) where
-    sides_are : (o : Option Coordinate) → HasLead S (ind ++ dep) text o → IsEquation S (ind ++ dep) (32 ∷ sides_text S (ind ++ dep) o e.diff) (record { lead = lead_or o (lead_alone S (e.diff).list); diff = e.diff })
-    sides_are (Some c) lead =
-        solved_is S small ind dep p q few distinct others all c e.diff (coordinate_good S small (ind ++ dep) many text c lead.behind lead.alone) lead.derivative
-        (right_low S small (ind ++ dep) many text e h c lead) (solved_small S (ind ++ dep) text e c h lead)
-    sides_are None lead =
-        let low = diff_low S small (ind ++ dep) many text e h in
-        unsolved_is S small ind dep p q few distinct others all (lead_alone S (e.diff).list) e.diff low (unsolved_small S (ind ++ dep) text e h)
-        (unsolved_lead S small ind dep p q few distinct others all many e.diff low (read_small S small (ind ++ dep) many text e h))
+  module _ (e : EquationRead) (w : IsWritten S e) (h : HasWrittenSides S e) where
+    sides_are : (o : Option Coordinate) → IfSome o (IsLow S) → IfSome o (HasRoomBeside S e.diff)
+        → IsEquation S (ind ++ dep) (32 ∷ sides_text S (ind ++ dep) o e.diff)
+        (record { lead = lead_or o (lead_alone S (e.diff).list); diff = e.diff })
+    sides_are (Some c) low room =
+        solved_is S small ind dep p q few distinct others all c e.diff (record { coordinate = low.coordinate; low = low.low }) low.some
+        (right_low S small e w h c low room) (solved_small S e.diff c h.numbers room)
+    sides_are None low room =
+        let terms = diff_low S small e w h in
+        unsolved_is S small ind dep p q few distinct others all (lead_alone S (e.diff).list) e.diff terms (unsolved_small e.diff h.numbers)
+        (unsolved_lead S small ind dep p q few distinct others all many e.diff terms (read_small S small e w h))
 
-    sides_plain : (o : Option Coordinate) → HasLead S (ind ++ dep) text o → ArePlain (sides_text S (ind ++ dep) o e.diff)
-    sides_plain (Some c) lead =
+    sides_plain : (o : Option Coordinate) → IfSome o (IsLow S) → IfSome o (HasRoomBeside S e.diff)
+        → ArePlain (sides_text S (ind ++ dep) o e.diff)
+    sides_plain (Some c) low room =
         let names = names_plain [] (ind ++ dep) all in
-        join (coordinate_text S (ind ++ dep) c ++ codes " = ") (polynomial_text S (ind ++ dep) (right_side S c e.diff)) (join (coordinate_text S (ind ++ dep) c) (codes " = ") (plain_coordinate S (ind ++ dep) names c) (refl, (refl, (refl, tt)))) (plain_sum S (ind ++ dep) names (right_side S c e.diff).list (right_low S small (ind ++ dep) many text e h c lead))
-    sides_plain None lead = join (polynomial_text S (ind ++ dep) e.diff) (codes " = 0") (plain_sum S (ind ++ dep) (names_plain [] (ind ++ dep) all) (e.diff).list (diff_low S small (ind ++ dep) many text e h)) (refl, (refl, (refl, (refl, tt))))
+        join (coordinate_text S (ind ++ dep) c ++ codes " = ") (polynomial_text S (ind ++ dep) (right_side S c e.diff))
+        (join (coordinate_text S (ind ++ dep) c) (codes " = ") (plain_coordinate S (ind ++ dep) names c) (refl, (refl, (refl, tt))))
+        (plain_sum S (ind ++ dep) names (right_side S c e.diff).list (right_low S small e w h c low room))
+    sides_plain None low room =
+        join (polynomial_text S (ind ++ dep) e.diff) (codes " = 0")
+        (plain_sum S (ind ++ dep) (names_plain [] (ind ++ dep) all) (e.diff).list (diff_low S small e w h)) (refl, (refl, (refl, (refl, tt))))
 
-  equations_are : (lines : List (List ℕ)) (es : List EquationRead) → AreEquations S (ind ++ dep) lines es → AreEquations S (ind ++ dep) (body_lines S (ind ++ dep) es) (map (with_lead S) es)
-  equations_are [] es h = absurd h
-  equations_are (l ∷ ls) [] h = (end_is, refl)
-  equations_are (l ∷ ls) (e ∷ es) h =
-      ((32 ∷ sides_text S (ind ++ dep) e.lead e.diff, record { front = no_blanks (equation_line S (ind ++ dep) e); ends = refl }, sides_are h.0.0 e h.0.2 e.lead (h.0.2).lead), equations_are ls es h.1)
+  equations_are : (es : List EquationRead) → Every (IsWritten S) es → Every (HasWrittenSides S) es
+      → AreEquations S (ind ++ dep) (body_lines S (ind ++ dep) es) (map (with_lead S) es)
+  equations_are [] w h = (end_is, refl)
+  equations_are (e ∷ es) w h = (
+    (
+      32 ∷ sides_text S (ind ++ dep) e.lead e.diff,
+      record { front = no_blanks (equation_line S (ind ++ dep) e); ends = refl },
+      sides_are e w.0 h.0 e.lead (w.0).lead (h.0).lead,
+    ),
+    equations_are es w.1 h.1,
+  )
 
-  equations_plain : (lines : List (List ℕ)) (es : List EquationRead) → AreEquations S (ind ++ dep) lines es → Every ArePlain (body_lines S (ind ++ dep) es) × Every IsContentLine (body_lines S (ind ++ dep) es)
-  equations_plain [] es h = absurd h
-  equations_plain (l ∷ ls) [] h = let plain : ArePlain (codes "end") = (refl, (refl, (refl, tt))) in ((plain, tt), (content_line 101 (codes "nd") refl plain, tt))
-  equations_plain (l ∷ ls) (e ∷ es) h =
-      let plain : ArePlain (equation_line S (ind ++ dep) e) = (refl, (refl, (refl, sides_plain h.0.0 e h.0.2 e.lead (h.0.2).lead))) in
-      let more = equations_plain ls es h.1 in
+  equations_plain : (es : List EquationRead) → Every (IsWritten S) es → Every (HasWrittenSides S) es
+      → Every ArePlain (body_lines S (ind ++ dep) es) × Every IsContentLine (body_lines S (ind ++ dep) es)
+  equations_plain [] w h =
+      let plain : ArePlain (codes "end") = (refl, (refl, (refl, tt))) in
+      ((plain, tt), (content_line 101 (codes "nd") refl plain, tt))
+  equations_plain (e ∷ es) w h =
+      let plain : ArePlain (equation_line S (ind ++ dep) e) = (refl, (refl, (refl, sides_plain e w.0 h.0 e.lead (w.0).lead (h.0).lead))) in
+      let more = equations_plain es w.1 h.1 in
       ((plain, more.0), (content_line 101 (113 ∷ 32 ∷ sides_text S (ind ++ dep) e.lead e.diff) refl plain, more.1))
 
-  lines_plain : (lines : List (List ℕ)) (es : List EquationRead) → AreEquations S (ind ++ dep) lines es → Every ArePlain (lines_of_system S ind dep es) × Every IsContentLine (lines_of_system S ind dep es)
-  lines_plain lines es h =
+  lines_plain : (es : List EquationRead) → Every (IsWritten S) es → Every (HasWrittenSides S) es
+      → Every ArePlain (lines_of_system S ind dep es) × Every IsContentLine (lines_of_system S ind dep es)
+  lines_plain es w h =
       let header : ArePlain (codes "lie 1") = (refl, (refl, (refl, (refl, (refl, tt))))) in
       let vars : ArePlain (keyword_line (codes "vars") ind) = (refl, (refl, (refl, (refl, plain_names ind (names_plain [] ind distinct))))) in
       let deps : ArePlain (keyword_line (codes "deps") dep) = (refl, (refl, (refl, (refl, plain_names dep (names_plain [] dep others))))) in
-      let body = equations_plain lines es h in
-      ((header, (vars, (deps, body.0))), (content_line 108 (codes "ie 1") refl header, (content_line 118 _ refl vars, (content_line 100 _ refl deps, body.1))))
+      let body = equations_plain es w h in (
+        (header, (vars, (deps, body.0))),
+        (content_line 108 (codes "ie 1") refl header, (content_line 118 _ refl vars, (content_line 100 _ refl deps, body.1))),
+      )
 
   -- the file of such lines
-  system_is : (lines : List (List ℕ)) (es : List EquationRead) → S ≡ record { p = length ind; q = length dep } → 1 ≤ length ind → 1 ≤ length dep → length dep ≤ 4 → AreDistinct ind dep → 1 ≤ length es → length es ≤ 16
-      → AreEquations S (ind ++ dep) lines es → IsFile (canonical_text (record { space = S; names = ind ++ dep; equations = es })) (with_leads (record { space = S; names = ind ++ dep; equations = es }))
-  system_is lines es space some_ind some_dep few_dep apart some_es few_es h =
-      let plain = lines_plain lines es h in
-      let many_es : length (map (with_lead S) es) ≡ length es = length-map es (with_lead S) in
+  system_is : (es : List EquationRead) → AreDistinct ind dep → 1 ≤ length es → AreWritten S es → Every (HasWrittenSides S) es
+      → IsFile (canonical_text (record { space = S; names = ind ++ dep; equations = es }))
+      (with_leads (record { space = S; names = ind ++ dep; equations = es }))
+  system_is es apart some written h =
+      let plain = lines_plain es written.equations h in
+      let count : length (map (with_lead S) es) ≡ length es = length-map es (with_lead S) in
+      let few_es = written.few in
+      let some_p = small.some_p in
+      let some_q = small.some_q in
+      let few_q = small.few_q in
       subst (λ t. IsFile t (with_leads (record { space = S; names = ind ++ dep; equations = es }))) (system_text S ind dep es p) (record {
         allowed = allowed_lines (lines_of_system S ind dep es) plain.0;
         system = record {
@@ -119,50 +178,39 @@ module _ (S : Space) (small : IsSmall S) (ind dep : List ℕ) (p : S.p ≡ lengt
           dependent = dep;
           lines = contents_of_lines (lines_of_system S ind dep es) plain.1;
           header_is = header_is;
-          vars_is = names_line_is (codes "vars") [] ind distinct some_ind few;
-          deps_is = names_line_is (codes "deps") ind dep apart some_dep few_dep;
-          body_is = equations_are lines es h;
-          space = space;
+          vars_is = names_line_is (codes "vars") [] ind distinct (omega arith) few;
+          deps_is = names_line_is (codes "deps") ind dep apart (omega arith) (omega arith);
+          body_is = equations_are es written.equations h;
+          space = λ i. record { p = p i; q = q i };
           names = refl;
           some = omega arith;
           few = omega arith;
         };
       })
 
--- ---- names
-distinct_joined : (before xs ys : List ℕ) → AreDistinct before xs → AreDistinct (before ++ xs) ys → AreDistinct before (xs ++ ys)
-distinct_joined before [] ys h k = subst (λ l. AreDistinct l ys) (append-nil before) k
-distinct_joined before (x ∷ xs) ys h k = (h.0, h.1, distinct_joined (before ++ x ∷ []) xs ys h.2 (subst (λ l. AreDistinct l ys) (sym (append_assoc before (x ∷ []) xs)) k))
-
-none_behind : (f : ℕ → Bool) (xs ys : List ℕ) → list_any f (xs ++ ys) ≡ false → list_any f ys ≡ false
-none_behind f [] ys h = h
-none_behind f (x ∷ xs) ys h = go (f x) h (none_behind f xs ys)
-  where
-    go : (b : Bool) → (b || list_any f (xs ++ ys)) ≡ false → (list_any f (xs ++ ys) ≡ false → list_any f ys ≡ false) → list_any f ys ≡ false
-    go true e k = cc
-    go false e k = k e
-
-distinct_alone : (xs before ns : List ℕ) → AreDistinct (xs ++ before) ns → AreDistinct before ns
-distinct_alone xs before [] h = tt
-distinct_alone xs before (n ∷ ns) h =
-    (h.0, none_behind (λ m. m == n) xs before h.1, distinct_alone xs (before ++ n ∷ []) ns (subst (λ l. AreDistinct l ns) (append_assoc xs before (n ∷ [])) h.2))
-
 -- ---- files
-system_again : (contents : List (List ℕ)) (s : SystemRead) → AreSystem contents s → IsFile (canonical_text s) (with_leads s)
-system_again contents s h =
-    let ind : List ℕ = h.independent in
-    let dep : List ℕ = h.dependent in
-    let named : s ≡ record { space = s.space; names = ind ++ dep; equations = s.equations } = λ i. record { space = s.space; names = h.names i; equations = s.equations } in
-    let distinct = line_distinct (codes "vars") [] h.vars ind h.vars_is in
-    let apart = line_distinct (codes "deps") ind h.deps dep h.deps_is in
-    let p : (s.space).p ≡ length ind = ap (λ (t : Space). t.p) h.space in
-    let q : (s.space).q ≡ length dep = ap (λ (t : Space). t.q) h.space in
-    subst (λ t. IsFile (canonical_text t) (with_leads t)) (sym named)
-    (system_is s.space (well_named contents s h).small ind dep p q (h.vars_is).few distinct (distinct_alone ind [] dep (subst (λ l. AreDistinct l dep) (sym (append-nil ind)) apart)) (distinct_joined [] ind dep distinct apart)
-    h.body s.equations h.space (h.vars_is).some (h.deps_is).some (h.deps_is).few apart h.some h.few (subst (λ n. AreEquations s.space n h.body s.equations) h.names h.body_is))
+-- the names in their two parts
+parted_is_file : (S : Space) (ind dep : List ℕ) (es : List EquationRead) → S.p ≡ length ind → S.q ≡ length dep
+    → IsWrittenSystem (record { space = S; names = ind ++ dep; equations = es })
+    → IsFile (canonical_text (record { space = S; names = ind ++ dep; equations = es }))
+    (with_leads (record { space = S; names = ind ++ dep; equations = es }))
+parted_is_file S ind dep es p q h =
+    let all = all_distinct (ind ++ dep) h.letters in
+    let parts = distinct_parts [] ind dep all in
+    let small = h.small in
+    let few_p = small.few_p in
+    system_is S small ind dep p q (omega arith) parts.0
+    (distinct_alone ind [] dep (subst (λ l. AreDistinct l dep) (sym (append-nil ind)) parts.1)) all es parts.1 h.some h.written h.sides
 
-pub canonical_is_file : (bytes : List ℕ) (s : SystemRead) → IsFile bytes s → IsFile (canonical_text s) (with_leads s)
-canonical_is_file bytes s h = system_again _ s h.system
+pub written_is_file : (s : SystemRead) → IsWrittenSystem s → IsFile (canonical_text s) (with_leads s)
+written_is_file s h =
+    let n = h.named in
+    let m = length-drop (s.space).p s.names in
+    let parted : s ≡ record { space = s.space; names = take (s.space).p s.names ++ drop (s.space).p s.names; equations = s.equations } =
+    ap (λ l. record { space = s.space; names = l; equations = s.equations }) (sym (take-append-drop (s.space).p s.names)) in
+    subst (λ t. IsFile (canonical_text t) (with_leads t)) (sym parted)
+    (parted_is_file s.space (take (s.space).p s.names) (drop (s.space).p s.names) s.equations
+    (sym (length-take-le (s.space).p s.names (omega arith))) (omega arith) (subst IsWrittenSystem parted h))
 
 -- ---- bytes
 ascii_byte : (b : ℕ) (bs : List ℕ) → is_allowed b bs ≡ true → b < 128
@@ -178,9 +226,9 @@ ascii_bytes : (bytes : List ℕ) → AreAllowed bytes → Every (λ b. b < 128) 
 ascii_bytes [] h = tt
 ascii_bytes (b ∷ bs) h = (ascii_byte b bs h.0, ascii_bytes bs h.1)
 
--- what is the canonical text of a system of a file
-pub again_is_file : (s : SystemRead) (bytes : List ℕ) → IsOfFile s → bytes ≡ canonical_text s → IsFile bytes (with_leads s)
-again_is_file s bytes h is = subst (λ t. IsFile t (with_leads s)) (sym is) (canonical_is_file h.0 s h.1)
+-- what is the canonical text of a written system
+pub text_is_file : (s : SystemRead) (bytes : List ℕ) → IsWrittenSystem s → bytes ≡ canonical_text s → IsFile bytes (with_leads s)
+text_is_file s bytes h is = subst (λ t. IsFile t (with_leads s)) (sym is) (written_is_file s h)
 
-pub again_is_ascii : (s : SystemRead) (bytes : List ℕ) → IsOfFile s → bytes ≡ canonical_text s → All (λ b. b < 128) bytes
-again_is_ascii s bytes h is = All-from_recursion (λ b. b < 128) bytes (ascii_bytes bytes (again_is_file s bytes h is).allowed)
+pub text_is_ascii : (s : SystemRead) (bytes : List ℕ) → IsWrittenSystem s → bytes ≡ canonical_text s → All (λ b. b < 128) bytes
+text_is_ascii s bytes h is = All-from_recursion (λ b. b < 128) bytes (ascii_bytes bytes (text_is_file s bytes h is).allowed)

@@ -17,8 +17,8 @@ use Rattle.lie_canonical.specs.RightSides.{plain_terms}
 use Rattle.lie_scan.specs.SumGrammar.{IsLeadOf, HasLead}
 use Rattle.lie_scan.proofs.FileCoordinates.{coordinate_good}
 use Rattle.lie_system.proofs.LeadNumbers.{list-single, order_none, high_number}
-use Rattle.lie_canonical.proofs.LeadSides.{lead_left}
-use Rattle.lie_canonical.proofs.PrintedCoordinates.{AreDistinct}
+use Rattle.lie_file.proofs.LeadSides.{lead_left}
+use Rattle.lie_file.proofs.DistinctNames.{AreDistinct}
 use Rattle.lie_canonical.proofs.PrintedPowers.{IsLowPower, variable_at_text}
 use Rattle.lie_canonical.proofs.PrintedSums.{blank_front, IsLowTerm, read_terms}
 use Rattle.lie_canonical.proofs.PrintedEquations.{same_terms, unsolved_left}

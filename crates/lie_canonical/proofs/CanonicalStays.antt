@@ -1,5 +1,5 @@
--- The canonical text of a system of a file stays the same where an equation that is a derivative alone has it as its lead.
-use Rattle.std.specs.Prelude.{ℕ, ◌+◌, ◌≡◌, ◌<◌, List, [], ◌∷◌, ◌++◌, length, map, codes, take, drop, pos, Option, Some, None, refl}
+-- The canonical text of a written system stays the same where an equation that is a derivative alone has it as its lead.
+use Rattle.std.specs.Prelude.{ℕ, ◌≡◌, ◌<◌, List, [], ◌∷◌, ◌++◌, map, codes, take, drop, pos, Option, Some, None, refl}
 use Rattle.std.specs.List.{flat_map, AllByRecursion as Every}
 use Rattle.std.proofs.Common.{sym, ap, ap₂, ◌∙◌, subst, arith, append_assoc}
 use Rattle.lie_math.specs.FiniteSum as finite
@@ -12,16 +12,15 @@ use Rattle.lie_geometry.proofs.NumberOrder.{order_below}
 use Rattle.lie_geometry.proofs.Numbers.{coordinate_is}
 use Rattle.lie_jet.specs.Jets.{IsSmall}
 use Rattle.lie_canonical.specs.CanonicalText.{polynomial_text, right_side, sides_text, equation_text, canonical_text}
-use Rattle.lie_file.specs.FileGrammar.{AreEquations, IsFile}
 use Rattle.lie_system.specs.LeadsAlone.{lead_alone, lead_or, with_lead, with_leads}
 use Rattle.lie_system.specs.Systems.{EquationRead, SystemRead}
+use Rattle.lie_system.specs.Written.{IsWritten, HasWrittenSides, IsWrittenSystem}
 use Rattle.lie_print.specs.Printing.{names_line, coordinate_text, variable_text, sum_text}
 use Rattle.lie_canonical.specs.RightSides.{plain_terms}
 use Rattle.lie_system.proofs.DerivativesAlone.{AreDerivative, alone-is}
 use Rattle.lie_canonical.proofs.CanonicalLeads.{alone_text}
 use Rattle.lie_system.proofs.LeadNumbers.{list-single}
 use Rattle.lie_canonical.proofs.CanonicalTerms.{diff_low}
-use Rattle.lie_file.proofs.WellNamed.{well_named}
 use Rattle.lie_canonical.proofs.PrintedPowers.{IsLowPower}
 use Rattle.lie_canonical.proofs.PrintedSums.{IsLowTerm}
 use Rattle.lie_print.proofs.PrintedVariables.{text_of}
@@ -76,14 +75,14 @@ module _ (S : Space) (small : IsSmall S) (names : List ℕ) where
       go (Some c) = refl
       go None = ap (λ l. codes "eq " ++ l ++ codes "\n") (sides_stay e.diff low)
 
-  equations_stay : length names ≡ S.p + S.q → (lines : List (List ℕ)) (es : List EquationRead) → AreEquations S names lines es → flat_map (equation_text S names) (map (with_lead S) es) ≡ flat_map (equation_text S names) es
-  equations_stay many [] es h = absurd h
-  equations_stay many (l ∷ ls) [] h = refl
-  equations_stay many (l ∷ ls) (e ∷ es) h = ap₂ ◌++◌ (equation_stays e (diff_low S small names many h.0.0 e h.0.2)) (equations_stay many ls es h.1)
+  equations_stay : (es : List EquationRead) → Every (IsWritten S) es → Every (HasWrittenSides S) es
+      → flat_map (equation_text S names) (map (with_lead S) es) ≡ flat_map (equation_text S names) es
+  equations_stay [] w h = refl
+  equations_stay (e ∷ es) w h = ap₂ ◌++◌ (equation_stays e (diff_low S small e w.0 h.0)) (equations_stay es w.1 h.1)
 
-pub canonical_stays : (bytes : List ℕ) (s : SystemRead) → IsFile bytes s → canonical_text (with_leads s) ≡ canonical_text s
+pub canonical_stays : (s : SystemRead) → IsWrittenSystem s → canonical_text (with_leads s) ≡ canonical_text s
 unfolding canonical_text
-canonical_stays bytes s h =
-    let named = well_named _ s h.system in
-    ap (λ l. codes "lie 1\n" ++ names_line (codes "vars") (take (s.space).p s.names) ++ names_line (codes "deps") (drop (s.space).p s.names) ++ l ++ codes "end\n")
-    (equations_stay s.space named.small s.names named.many (h.system).body s.equations (h.system).body_is)
+canonical_stays s h =
+    ap (λ l. codes "lie 1\n" ++ names_line (codes "vars") (take (s.space).p s.names) ++ names_line (codes "deps") (drop (s.space).p s.names)
+    ++ l ++ codes "end\n")
+    (equations_stay s.space h.small s.names s.equations (h.written).equations h.sides)

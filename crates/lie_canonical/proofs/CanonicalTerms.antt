@@ -1,8 +1,9 @@
--- The terms of an equation's canonical text can be printed and read again.
-use Rattle.std.specs.Prelude.{ℕ, ◌+◌, ◌^◌, ◌≡◌, ◌≤◌, ◌<◌, Bool, true, false, cond, List, [], ◌∷◌, length, ℤ, pos, ◌+ℤ◌, neg_ℤ, unsigned_abs, refl}
+-- The terms of a written equation's canonical text can be printed and read again.
+use Rattle.std.specs.Prelude.{ℕ, ◌+◌, ◌^◌, ◌≡◌, ◌≤◌, ◌<◌, ltb, Bool, true, false, cond, [], ◌∷◌, ℤ, pos, ◌+ℤ◌, neg_ℤ, unsigned_abs, refl}
 use Rattle.std.specs.List.{AllByRecursion as Every}
 use Rattle.std.specs.Ordering.{eq_by_cmp, nat_cmp}
 use Rattle.std.proofs.Common.{sym, ap, subst, ◌∙◌, arith}
+use Rattle.std.proofs.lemmas.Bool.Decides.{nat_tests}
 use Rattle.lie_math.specs.Monomial.{Monomial, monomial_cmp, powers, unit, single}
 use Rattle.lie_math.specs.Polynomial.{WholePolynomial, terms, coefficient}
 use Rattle.lie_math.proofs.FiniteSum.{key, entries_of}
@@ -11,11 +12,11 @@ use Rattle.lie_geometry.specs.Coordinates.{Space, Coordinate, number, coordinate
 use Rattle.lie_jet.specs.Jets.{IsSmall}
 use Rattle.lie_canonical.specs.CanonicalText.{right_side}
 use Rattle.lie_system.specs.Systems.{EquationRead}
+use Rattle.lie_system.specs.Written.{IsLow, IsWritten, HasRoomBeside, HasWrittenSides}
 use Rattle.lie_scan.specs.Meaning.{size_of}
-use Rattle.lie_scan.specs.SumGrammar.{IsLeadOf, IsEquation}
-use Rattle.lie_scan.proofs.FileCoordinates.{coordinate_good, good_number}
-use Rattle.lie_file.proofs.FileTerms.{IsLowMonomial, equation_low}
-use Rattle.lie_canonical.proofs.LeadSides.{small_single}
+use Rattle.lie_scan.proofs.FileCoordinates.{good_number}
+use Rattle.lie_file.proofs.FileTerms.{IsLowMonomial}
+use Rattle.lie_file.proofs.LeadSides.{small_single}
 use Rattle.lie_canonical.proofs.PrintedMonomials.{low_powers}
 use Rattle.lie_canonical.proofs.PrintedSizes.{read_size, right_value, solved_small, unsolved_small}
 use Rattle.lie_canonical.proofs.PrintedSums.{IsLowTerm, read_terms}
@@ -35,27 +36,37 @@ single_low S w low = record { variables = λ v le. exponent-single w v ∙ go v 
     go v le true e = let s : v ≡ w = key powers v w e in absurd (omega arith)
     go v le false e = refl
 
-module _ (S : Space) (small : IsSmall S) (names : List ℕ) (many : length names ≡ S.p + S.q) (text : List ℕ) (e : EquationRead) (h : IsEquation S names text e) where
+module _ (S : Space) (small : IsSmall S) (e : EquationRead) (w : IsWritten S e) (h : HasWrittenSides S e) where
   -- without a lead
   pub read_small : AreSmall (read_terms false (e.diff).list)
-  read_small = small_front (read_terms false (e.diff).list) ((unit, pos 0) ∷ []) (unsolved_small S names text e h)
+  read_small = small_front (read_terms false (e.diff).list) ((unit, pos 0) ∷ []) (unsolved_small e.diff h.numbers)
+
+  diff_monomial : (m : Monomial) → ¬ (coefficient e.diff m ≡ pos 0) → IsLowMonomial S m
+  diff_monomial m n = record {
+    variables = λ v le. w.diff v (let out : ltb v (coordinates_up_to S 6) ≡ false = grind (arith, nat_tests, le) in out) m n;
+    exponents = h.exponents m n;
+  }
 
   pub diff_low : Every (IsLowTerm S) (e.diff).list
-  diff_low = low_terms S e.diff (equation_low S small names many text e h) (λ m. let size = read_size false e.diff m in let low = read_small m in omega arith)
+  diff_low = low_terms S e.diff diff_monomial h.numbers
 
-  module _ (c : Coordinate) (lead : IsLeadOf S names text c) where
+  module _ (c : Coordinate) (lead : IsLow S c) (room : HasRoomBeside S e.diff c) where
     right_monomial : (m : Monomial) → ¬ (coefficient (right_side S c e.diff) m ≡ pos 0) → IsLowMonomial S m
     right_monomial m n = go (eq_by_cmp monomial_cmp m (single (number S c))) refl (right_value S c e.diff m)
       where
-        go : (b : Bool) → eq_by_cmp monomial_cmp m (single (number S c)) ≡ b → coefficient (right_side S c e.diff) m ≡ cond b (pos 1) (pos 0) +ℤ neg_ℤ (coefficient e.diff m) → IsLowMonomial S m
-        go true f is = subst (IsLowMonomial S) (sym (key terms m (single (number S c)) f)) (single_low S (number S c) (good_number S small names many c (coordinate_good S small names many text c lead.behind lead.alone)))
-        go false f is = equation_low S small names many text e h m (λ z. n (is ∙ ap (λ (x : ℤ). pos 0 +ℤ neg_ℤ x) z))
+        go : (b : Bool) → eq_by_cmp monomial_cmp m (single (number S c)) ≡ b
+            → coefficient (right_side S c e.diff) m ≡ cond b (pos 1) (pos 0) +ℤ neg_ℤ (coefficient e.diff m) → IsLowMonomial S m
+        go true f is =
+            subst (IsLowMonomial S) (sym (key terms m (single (number S c)) f))
+            (single_low S (number S c) (good_number S small c (record { coordinate = lead.coordinate; low = lead.low })))
+        go false f is = diff_monomial m (λ z. n (is ∙ ap (λ (x : ℤ). pos 0 +ℤ neg_ℤ x) z))
 
     -- with a lead
     pub right_low : Every (IsLowTerm S) (right_side S c e.diff).list
     right_low = low_terms S (right_side S c e.diff) right_monomial (λ m.
         let size = read_size true (right_side S c e.diff) m in
-        bounded (eq_by_cmp monomial_cmp m (single (number S c))) (size_of m (read_terms true (right_side S c e.diff).list)) (unsigned_abs (coefficient (right_side S c e.diff) m)) size (solved_small S names text e c h lead m))
+        bounded (eq_by_cmp monomial_cmp m (single (number S c))) (size_of m (read_terms true (right_side S c e.diff).list))
+        (unsigned_abs (coefficient (right_side S c e.diff) m)) size (solved_small S e.diff c h.numbers room m))
       where
         bounded : (b : Bool) (n k : ℕ) → n ≡ k → cond b 1 0 + n < 2 ^ 127 → k < 2 ^ 127
         bounded true n k is lt = omega arith

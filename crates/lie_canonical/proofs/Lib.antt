@@ -1,5 +1,6 @@
 mod RightSideSteps
-mod LeadSides
+mod PrintableEquations
+mod DistinctLetters
 mod RightSideLists
 mod PrintedCoordinates
 mod PrintedPowers

@@ -15,7 +15,7 @@ use Rattle.lie_scan.specs.Runs.{is_in, after_blanks}
 use Rattle.lie_scan.specs.TokenGrammar.{AreIn}
 use Rattle.lie_scan.proofs.Blanks.{and_true, letter_range, digit_range}
 use Rattle.lie_scan.proofs.NumberLaws.{all_digits}
-use Rattle.lie_canonical.proofs.PrintedCoordinates.{AreDistinct}
+use Rattle.lie_file.proofs.DistinctNames.{AreDistinct}
 use Rattle.lie_canonical.proofs.PrintedFiles.{IsContentLine}
 use Rattle.lie_canonical.proofs.PrintedPowers.{IsLowPower}
 use Rattle.lie_canonical.proofs.PrintedSums.{IsLowTerm}

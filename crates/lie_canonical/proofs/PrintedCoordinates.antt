@@ -15,6 +15,7 @@ use Rattle.lie_scan.specs.Runs.{is_in}
 use Rattle.lie_scan.specs.TokenGrammar.{BeginsOutside, IsNot, IsNumber, IsCoordinateAt}
 use Rattle.lie_scan.proofs.Blanks.{no_blanks}
 use Rattle.lie_scan.proofs.FileCoordinates.{IsGood}
+use Rattle.lie_file.proofs.DistinctNames.{AreDistinct}
 use Rattle.lie_math.specs.Natural.{nat_idl}
 
 -- ---- numbers
@@ -24,11 +25,6 @@ decimal_number n rest small ended =
     record { digits = decimal n; front = no_blanks (decimal n ++ rest); ended = ended; numeral = d.0; value = d.1 }
 
 -- ---- names
--- letters, each other than those before it
-abbrev pub AreDistinct : List ℕ → List ℕ → Type 0
-AreDistinct before [] = Unit {0}
-AreDistinct before (n ∷ ns) = (is_in Letter n ≡ true) × (list_any (λ m. m == n) before ≡ false) × AreDistinct (before ++ n ∷ []) ns
-
 place_after : (k : ℕ) (before after : List ℕ) (n : ℕ) → list_any (λ m. m == n) before ≡ false → place_from k (before ++ n ∷ after) n ≡ Some (k + length before)
 place_after k [] after n h = let same : (n == n) ≡ true = grind (arith, nat_tests) in let e : k ≡ k + 0 = omega arith in rw same (ap Some e)
 place_after k (b ∷ bs) after n h = go (b == n) refl h (place_after (k + 1) bs after n)

@@ -19,8 +19,9 @@ use Rattle.lie_print.specs.Printing.{coordinate_text}
 use Rattle.lie_scan.specs.TokenGrammar.{IsSign, IsCoordinateAt}
 use Rattle.lie_scan.specs.SumGrammar.{IsSigned, IsFirstSign, IsSum, HasLead, IsEquation}
 use Rattle.lie_scan.proofs.FileCoordinates.{IsGood}
-use Rattle.lie_canonical.proofs.LeadSides.{alone_is_sum}
-use Rattle.lie_canonical.proofs.PrintedCoordinates.{AreDistinct, coordinate_is}
+use Rattle.lie_file.proofs.LeadSides.{alone_is_sum}
+use Rattle.lie_file.proofs.DistinctNames.{AreDistinct}
+use Rattle.lie_canonical.proofs.PrintedCoordinates.{coordinate_is}
 use Rattle.lie_canonical.proofs.PrintedPowers.{EndsPower}
 use Rattle.lie_canonical.proofs.PrintedSums.{blank_front, blank_term, IsLowTerm, turned_terms, read_terms, sum_is}
 use Rattle.lie_canonical.proofs.RightSideLists.{times_negated}

@@ -3,7 +3,7 @@ use Rattle.std.specs.Prelude.{ℕ, ◌≤◌, List, [], ◌∷◌, ◌++◌, len
 use Rattle.std.specs.List.{flat_map}
 use Rattle.lie_file.specs.FileGrammar.{EndsWord, IsHeader, AreNames, IsNamesLine, IsEndLine}
 use Rattle.lie_scan.proofs.Blanks.{no_blanks}
-use Rattle.lie_canonical.proofs.PrintedCoordinates.{AreDistinct}
+use Rattle.lie_file.proofs.DistinctNames.{AreDistinct}
 
 pub header_is : IsHeader (codes "lie 1")
 header_is = record {
@@ -36,11 +36,3 @@ names_line_is keyword before names h some few = record {
   some = some;
   few = few;
 }
-
-names_distinct : (before text names rest : List ℕ) → AreNames before text names rest → AreDistinct before names
-names_distinct before text [] rest h = tt
-names_distinct before text (n ∷ ns) rest h = (h.2, h.3, names_distinct (before ++ n ∷ []) h.0 ns rest h.4)
-
--- the names of a line are distinct letters
-pub line_distinct : (keyword before content names : List ℕ) → IsNamesLine keyword before content names → AreDistinct before names
-line_distinct keyword before content names h = names_distinct before h.behind names h.rest h.are

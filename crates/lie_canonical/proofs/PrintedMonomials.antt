@@ -7,7 +7,7 @@ use Rattle.lie_math.specs.Monomial.{Monomial, exponent, powers}
 use Rattle.lie_math.proofs.FiniteSum.{entries_of}
 use Rattle.lie_geometry.specs.Coordinates.{Space, coordinates_up_to}
 use Rattle.lie_jet.specs.Listed.{HasVariablesBelow}
-use Rattle.lie_scan.specs.Exponents.{HasSmallExponents}
+use Rattle.lie_system.specs.Exponents.{HasSmallExponents}
 use Rattle.lie_canonical.proofs.PrintedPowers.{IsLowPower}
 
 pub low_powers : (S : Space) (m : Monomial) → HasVariablesBelow (coordinates_up_to S 6) m → HasSmallExponents m → Every (IsLowPower S) m.list

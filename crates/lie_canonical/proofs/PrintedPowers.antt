@@ -14,7 +14,7 @@ use Rattle.lie_geometry.proofs.Numbers as numbers
 use Rattle.lie_geometry.proofs.NumberOrder.{order_below}
 use Rattle.lie_jet.specs.Jets.{IsSmall}
 use Rattle.lie_scan.specs.declared.runs.Class.TheVariants.{Letter, Digit}
-use Rattle.lie_scan.specs.Exponents.{HasSmallExponents}
+use Rattle.lie_system.specs.Exponents.{HasSmallExponents}
 use Rattle.lie_scan.specs.Meaning.{product}
 use Rattle.lie_print.specs.Printing.{coordinate_text, variable_text, power_text, number_factor, term_text, behind as joined}
 use Rattle.lie_scan.specs.Runs.{after_blanks}
@@ -22,7 +22,8 @@ use Rattle.lie_scan.specs.TokenGrammar.{BeginsOutside, IsNot, IsSign, IsCoordina
 use Rattle.lie_scan.specs.SumGrammar.{AreFactors, IsTerm}
 use Rattle.lie_scan.proofs.Blanks.{no_blanks}
 use Rattle.lie_scan.proofs.FileCoordinates.{IsGood}
-use Rattle.lie_canonical.proofs.PrintedCoordinates.{AreDistinct, decimal_number, coordinate_is}
+use Rattle.lie_file.proofs.DistinctNames.{AreDistinct}
+use Rattle.lie_canonical.proofs.PrintedCoordinates.{decimal_number, coordinate_is}
 
 -- ---- products
 product_none : (m : Monomial) → m · monomial_of [] ≡ m

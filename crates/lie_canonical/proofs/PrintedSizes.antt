@@ -1,25 +1,46 @@
--- The like terms of an equation's canonical text sum to no more than those of the equation as written.
-use Rattle.std.specs.Prelude.{ℕ, ◌+◌, ◌^◌, ◌≡◌, ◌≤◌, ◌<◌, Bool, true, false, cond, not, ◌&&◌, T, List, [], ◌∷◌, ◌++◌, ℤ, pos, ◌+ℤ◌, neg_ℤ, unsigned_abs, refl}
+-- The like terms of a written equation's canonical text sum to no more than 2^127 - 1.
+use Rattle.std.specs.Prelude.{
+  ℕ,
+  ◌+◌,
+  ◌^◌,
+  ◌≡◌,
+  ◌<◌,
+  Bool,
+  true,
+  false,
+  cond,
+  not,
+  ◌&&◌,
+  T,
+  List,
+  [],
+  ◌∷◌,
+  ◌++◌,
+  ℤ,
+  pos,
+  ◌+ℤ◌,
+  neg_ℤ,
+  unsigned_abs,
+  refl,
+}
 use Rattle.std.specs.Ordering.{eq_by_cmp}
 use Rattle.std.proofs.Common.{sym, ap, ap₂, subst, ◌∙◌, arith}
 use borrow.Author.Differences.{ints}
 use Rattle.lie_math.specs.Canonical.{value_at-tail, first, second}
 use Rattle.lie_math.specs.FiniteSum.{IsCanonical}
-use Rattle.lie_math.specs.FiniteSumLaws.{value-of, value-plus, value-term}
+use Rattle.lie_math.specs.FiniteSumLaws.{value-plus, value-term}
 use Rattle.lie_math.specs.Integer.{coefficients, is_zero_int}
+use Rattle.lie_math.specs.Limits.{FitsNumber}
 use Rattle.lie_math.specs.Monomial.{Monomial, monomial_cmp, unit, single}
-use Rattle.lie_math.specs.Polynomial.{WholePolynomial, terms, term, polynomial_of, coefficient, negᴾ}
+use Rattle.lie_math.specs.Polynomial.{WholePolynomial, terms, term, coefficient, negᴾ}
 use Rattle.lie_math.specs.SortedSum.{value_at, below_all, is_canonical}
+use Rattle.lie_math.proofs.FiniteSum.{key}
 use Rattle.lie_geometry.specs.Coordinates.{Space, Coordinate, number}
 use Rattle.lie_canonical.specs.CanonicalText.{right_side}
 use Rattle.lie_canonical.specs.RightSides.{negated}
-use Rattle.lie_system.specs.Systems.{EquationRead}
+use Rattle.lie_system.specs.Written.{HasRoomBeside}
 use Rattle.lie_scan.specs.Meaning.{size_of}
-use Rattle.lie_scan.specs.SumGrammar.{IsLeadOf, IsEquation}
-use Rattle.lie_canonical.proofs.LeadSides.{lead_left}
-use Rattle.lie_scan.proofs.TermLimits.{value_bound}
 use Rattle.lie_canonical.proofs.RightSideLists.{list-neg}
-use Rattle.lie_scan.proofs.SumLaws.{small_front}
 use Rattle.lie_canonical.proofs.PrintedSums.{turned_number, turned_terms, read_terms}
 
 -- each monomial stands once in a polynomial's list
@@ -73,15 +94,13 @@ pub read_size : (turned : Bool) (P : WholePolynomial) (m : Monomial) → size_of
 read_size turned P m = read_size_of turned m P.list ∙ size_once m P.list P.canonical
 
 -- an equation without a lead
-pub unsolved_small : (S : Space) (names text : List ℕ) (e : EquationRead) → IsEquation S names text e → (m : Monomial) → size_of m (read_terms false e.diff.list ++ (unit, pos 0) ∷ []) < 2 ^ 127
-unsolved_small S names text e h m =
-    let parted = size_joined m (read_terms false e.diff.list) ((unit, pos 0) ∷ []) in
+pub unsolved_small : (P : WholePolynomial) → ((m : Monomial) → FitsNumber (coefficient P m))
+    → (m : Monomial) → size_of m (read_terms false P.list ++ (unit, pos 0) ∷ []) < 2 ^ 127
+unsolved_small P numbers m =
+    let parted = size_joined m (read_terms false P.list) ((unit, pos 0) ∷ []) in
     let none = zero_size m in
-    let size = read_size false e.diff m in
-    let at : coefficient e.diff m ≡ value_at monomial_cmp coefficients m (h.left ++ h.right) = ap (λ (p : WholePolynomial). coefficient p m) h.means ∙ value-of terms (h.left ++ h.right) m in
-    let same = ap unsigned_abs at in
-    let bound = value_bound m (h.left ++ h.right) in
-    let low = h.small m in
+    let size = read_size false P m in
+    let fits : unsigned_abs (coefficient P m) < 2 ^ 127 = numbers m in
     omega arith
 
 -- an equation with a lead
@@ -106,19 +125,19 @@ right_value S c diff m =
     value-plus terms (term (single (number S c)) (pos 1)) (negᴾ diff) m
     ∙ ap₂ ◌+ℤ◌ (value-term terms (single (number S c)) (pos 1) m) (ap (value_at monomial_cmp coefficients m) (list-neg diff) ∙ value_negated m diff.list)
 
-sizes_of : (b : Bool) (r : ℤ) (s : ℕ) → unsigned_abs r ≤ s → cond b 1 0 + s < 2 ^ 127 → cond b 1 0 + unsigned_abs (cond b (pos 1) (pos 0) +ℤ neg_ℤ (cond b (pos 1) (pos 0) +ℤ r)) < 2 ^ 127
-sizes_of true r s le lt = let k : unsigned_abs (pos 1 +ℤ neg_ℤ (pos 1 +ℤ r)) ≡ unsigned_abs r = omega (arith, ints) in omega arith
-sizes_of false r s le lt = let k : unsigned_abs (pos 0 +ℤ neg_ℤ (pos 0 +ℤ r)) ≡ unsigned_abs r = omega (arith, ints) in omega arith
-
-pub solved_small : (S : Space) (names text : List ℕ) (e : EquationRead) (c : Coordinate) → IsEquation S names text e → IsLeadOf S names text c
-    → (m : Monomial) → size_of m ((single (number S c), pos 1) ∷ read_terms true (right_side S c e.diff).list) < 2 ^ 127
-solved_small S names text e c h lead m =
-    let x : Monomial = single (number S c) in
-    let d : Bool = eq_by_cmp monomial_cmp m x in
-    let r : ℤ = value_at monomial_cmp coefficients m h.right in
-    let left = lead_left S names text c h.left h.behind_left h.front lead h.left_is h.equals (small_front h.left h.right h.small) in
-    let at : coefficient e.diff m ≡ cond d (pos 1) (pos 0) +ℤ r =
-    ap (λ (p : WholePolynomial). coefficient p m) (h.means ∙ ap (λ l. polynomial_of (l ++ h.right)) left) ∙ value-of terms ((x, pos 1) ∷ h.right) m in
-    let low : cond d 1 0 + size_of m h.right < 2 ^ 127 = subst (λ l. size_of m (l ++ h.right) < 2 ^ 127) left (h.small m) in
-    let size = read_size true (right_side S c e.diff) m ∙ ap unsigned_abs (right_value S c e.diff m ∙ ap (λ z. cond d (pos 1) (pos 0) +ℤ neg_ℤ z) at) in
-    subst (λ n. cond d 1 0 + n < 2 ^ 127) (sym size) (sizes_of d r (size_of m h.right) (value_bound m h.right) low)
+pub solved_small : (S : Space) (P : WholePolynomial) (c : Coordinate) → ((m : Monomial) → FitsNumber (coefficient P m)) → HasRoomBeside S P c
+    → (m : Monomial) → size_of m ((single (number S c), pos 1) ∷ read_terms true (right_side S c P).list) < 2 ^ 127
+solved_small S P c numbers room m =
+    go (size_of m (read_terms true (right_side S c P).list)) (eq_by_cmp monomial_cmp m (single (number S c))) refl
+    (read_size true (right_side S c P) m ∙ ap unsigned_abs (right_value S c P m))
+  where
+    go : (n : ℕ) (d : Bool) → eq_by_cmp monomial_cmp m (single (number S c)) ≡ d
+        → n ≡ unsigned_abs (cond d (pos 1) (pos 0) +ℤ neg_ℤ (coefficient P m)) → cond d 1 0 + n < 2 ^ 127
+    go n true same size =
+        let at : 1 + unsigned_abs (pos 1 +ℤ neg_ℤ (coefficient P m)) < 2 ^ 127 =
+        subst (λ x. 1 + unsigned_abs (pos 1 +ℤ neg_ℤ (coefficient P x)) < 2 ^ 127) (sym (key terms m (single (number S c)) same)) room in
+        omega arith
+    go n false other size =
+        let fits : unsigned_abs (coefficient P m) < 2 ^ 127 = numbers m in
+        let turned : unsigned_abs (pos 0 +ℤ neg_ℤ (coefficient P m)) ≡ unsigned_abs (coefficient P m) = omega (arith, ints) in
+        omega arith

@@ -9,7 +9,7 @@ use Rattle.lie_math.specs.Monomial.{Monomial, powers, unit}
 use Rattle.lie_geometry.specs.Coordinates.{Space}
 use Rattle.lie_jet.specs.Jets.{IsSmall}
 use Rattle.lie_ring.specs.Ratios.{signed}
-use Rattle.lie_scan.specs.Exponents.{HasSmallExponents}
+use Rattle.lie_system.specs.Exponents.{HasSmallExponents}
 use Rattle.lie_scan.specs.Meaning.{turned_sign}
 use Rattle.lie_print.specs.Printing.{term_text, sign_text, signed_text, sum_text}
 use Rattle.lie_canonical.specs.RightSides.{plain_terms}
@@ -21,8 +21,8 @@ use Rattle.lie_scan.proofs.Blanks.{no_blanks, digit_range}
 use Rattle.lie_scan.proofs.CoordinateLaws.{coordinate_front}
 use Rattle.lie_scan.proofs.NumberLaws.{digits_all}
 use Rattle.lie_scan.proofs.TermLaws.{number_front}
-use Rattle.lie_canonical.proofs.LeadSides.{letter_not}
-use Rattle.lie_canonical.proofs.PrintedCoordinates.{AreDistinct}
+use Rattle.lie_file.proofs.LeadSides.{letter_not}
+use Rattle.lie_file.proofs.DistinctNames.{AreDistinct}
 use Rattle.lie_canonical.proofs.PrintedPowers.{EndsPower, IsLowPower, term_is}
 
 -- ---- a blank in front

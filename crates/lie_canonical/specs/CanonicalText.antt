@@ -1,5 +1,5 @@
 -- The canonical text of a system: five kinds of line, single blanks, and no comment.
-use Rattle.std.specs.Prelude.{ℕ, List, [], ◌∷◌, ◌++◌, take, drop, codes, Some, None}
+use Rattle.std.specs.Prelude.{ℕ, List, ◌++◌, take, drop, codes, Some, None}
 use Rattle.std.specs.declared.option.Option.{Option}
 use Rattle.std.specs.List.{flat_map}
 use Rattle.lie_math.specs.Polynomial.{WholePolynomial, variable, negᴾ, ◌+ᴾ◌}

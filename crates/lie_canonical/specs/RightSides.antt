@@ -1,5 +1,5 @@
 -- The right side of an equation with a lead: lead minus diff, by its terms.
-use Rattle.std.specs.Prelude.{ℕ, ◌≡◌, ◌≤◌, List, map, ℤ, pos, ◌+ℤ◌, neg_ℤ, Some, None, IfSome}
+use Rattle.std.specs.Prelude.{◌≡◌, ◌≤◌, List, map, ℤ, pos, ◌+ℤ◌, neg_ℤ, Some, None, IfSome}
 use Rattle.std.specs.declared.option.Option.{Option}
 use Rattle.lie_math.specs.SortedSum.{add_at}
 use Rattle.lie_math.specs.Integer.{coefficients}
@@ -7,10 +7,9 @@ use Rattle.lie_math.specs.Limits.{FitsNumber}
 use Rattle.lie_math.specs.Monomial.{Monomial, monomial_cmp, single}
 use Rattle.lie_math.specs.Polynomial.{WholePolynomial, coefficient}
 use Rattle.lie_geometry.specs.Coordinates.{Space, Coordinate, IsCoordinate, order_of, number}
-use Rattle.lie_system.specs.Systems.{EquationRead, SystemRead}
-use Rattle.lie_file.specs.FileGrammar.{IsFile}
+use Rattle.lie_system.specs.Systems.{EquationRead}
 use Rattle.lie_print.specs.Printing.{PrintedTerm}
-use Rattle.lie_system.specs.Limits.{greatest_written_order}
+use Rattle.lie_jet.specs.Limits.{greatest_written_order}
 
 -- a coordinate of a written order, which minus diff is within the limit of numbers
 pub record HasRightSide (S : Space) (c : Coordinate) (diff : WholePolynomial) : Type 0 where
@@ -21,10 +20,6 @@ pub record HasRightSide (S : Space) (c : Coordinate) (diff : WholePolynomial) : 
 -- an equation that has its text
 abbrev pub IsPrintable : Space → EquationRead → Type 0
 IsPrintable S e = IfSome e.lead (λ c. HasRightSide S c e.diff)
-
--- the system of a file
-abbrev pub IsOfFile : SystemRead → Type 0
-IsOfFile s = (bytes : List ℕ) × IsFile bytes s
 
 -- ---- terms
 abbrev pub negated : List (Monomial × ℤ) → List (Monomial × ℤ)

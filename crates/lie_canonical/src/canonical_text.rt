@@ -9,8 +9,8 @@ ghost use Rattle.lie_canonical.specs.CanonicalText.{sides_text, equation_text, c
 ghost use Rattle.lie_print.specs.Printing.{names_line};
 ghost use Rattle.lie_system.specs.LeadsAlone.{with_leads};
 ghost use Rattle.lie_file.specs.FileGrammar.{IsFile};
-ghost use Rattle.lie_canonical.specs.RightSides.{HasRightSide, IsPrintable, IsOfFile};
-ghost use Rattle.lie_system.specs.Limits.{greatest_jet_order};
+ghost use Rattle.lie_canonical.specs.RightSides.{HasRightSide, IsPrintable};
+ghost use Rattle.lie_jet.specs.Limits.{greatest_jet_order};
 
 use crate::right_side::right_side;
 use lie_bytes::{NoMemory, Text};
@@ -162,7 +162,6 @@ fn push_header(text: &mut Vec<u8>, space: Space, names: &[u8]) -> Result<(), NoM
 // The bytes of the canonical text of a system.
 #[tactic(auto, unfolding(crate::specs::CanonicalText::canonical_text))]
 fn canonical_bytes(alloc: Global, system: &System) -> Result<Vec<u8>, NoMemory>
-    requires { IsOfFile (system_read system.now) }
     ensures { IfOk result (λ bytes. bytes.items ≡ canonical_text (system_read system.now)) }
 {
     let names = system.names.bytes();
@@ -181,8 +180,6 @@ fn canonical_bytes(alloc: Global, system: &System) -> Result<Vec<u8>, NoMemory>
 /// The canonical text of a system: five kinds of line with single blanks and no comment. An equation with a lead is the lead and what
 /// it equals, another is its polynomial and `= 0`.
 pub fn canonical(alloc: Global, system: &System) -> Result<Text, NoMemory>
-    // A system is the one of some file.
-    requires { IsOfFile (system_read system.now) }
     ensures text { IfOk result (λ text. text ≡ canonical_text (system_read system.now)) }
     // It is a file of the system, where an equation that is a derivative alone has it as its lead.
     ensures file { IfOk result (λ text. IsFile text (with_leads (system_read system.now))) }

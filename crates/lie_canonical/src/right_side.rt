@@ -23,7 +23,7 @@ fn push_plain(out: &mut Vec<Term>, monomial: Mono, number: Whole) -> Result<(), 
     out.push(Term {
         number,
         monomial,
-        derivative: None,
+        last: None,
     })?;
     Ok(())
 }

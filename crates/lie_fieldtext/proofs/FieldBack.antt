@@ -8,7 +8,7 @@ use Rattle.lie_scan.specs.declared.fault.BadKind.TheVariants.{Syntax, Number, Un
 use Rattle.lie_scan.specs.declared.runs.Class.TheVariants.{Blank, Letter, Digit}
 use Rattle.lie_scan.specs.declared.stop.Stop.{Stop}
 use Rattle.lie_fieldtext.specs.declared.field_term.FieldTerm.{FieldTerm}
-use Rattle.lie_scan.specs.Exponents.{HasSmallExponents}
+use Rattle.lie_system.specs.Exponents.{HasSmallExponents}
 use Rattle.lie_scan.specs.Runs.{run, behind, after_blanks, is_in}
 use Rattle.lie_scan.specs.Stops.{stop}
 use Rattle.lie_scan.specs.Names.{place_of}

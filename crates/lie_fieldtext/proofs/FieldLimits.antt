@@ -14,7 +14,7 @@ use Rattle.lie_poly.specs.Bulk.{IsBulkOf}
 use Rattle.lie_poly.proofs.BulkLists.{bulk_covers}
 use Rattle.lie_jet.proofs.Absolutes.{within_absolute}
 use Rattle.lie_fieldtext.specs.declared.field_term.FieldTerm.{FieldTerm}
-use Rattle.lie_scan.specs.Exponents.{HasSmallExponents}
+use Rattle.lie_system.specs.Exponents.{HasSmallExponents}
 use Rattle.lie_scan.specs.Meaning.{size_of}
 use Rattle.lie_fieldtext.specs.FieldMeaning.{amount_over, size_over, terms_over}
 use Rattle.lie_fieldtext.specs.FieldAnswers.{AreSmallOver, AreGathered, ArePartsWithin, times_entries}

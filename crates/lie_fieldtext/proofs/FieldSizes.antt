@@ -13,7 +13,7 @@ use Rattle.lie_math.proofs.Monomial.{same_monomial}
 use Rattle.lie_math.specs.Polynomial.{terms}
 use Rattle.lie_fieldtext.specs.declared.field_term.FieldTerm.{FieldTerm}
 use Rattle.lie_scan.specs.Sizes.{pairs_cmp, key_cmp, size_in}
-use Rattle.lie_fieldtext.specs.FieldMeaning.{common_multiple, denominator_from, common_denominator, amount_over, is_at, size_over, AreWithinLimits}
+use Rattle.lie_fieldtext.specs.FieldMeaning.{common_multiple, denominator_from, common_denominator, amount_over, is_at, size_over, HaveSmallSums}
 use Rattle.lie_fieldtext.specs.FieldReading.{is_small, are_within, with_field_term}
 use Rattle.lie_fieldtext.specs.FieldAnswers.{AreSizesOver, AreSmallOver, IsSized, IsPut, HasDenominator, IsTermOver, AreGathered}
 use Rattle.std.proofs.Math.ListN.{take-append-drop}
@@ -162,7 +162,7 @@ small_all : (n : ℕ) (ts us : List FieldTerm) → AreSmallOver n ts → list_al
 small_all n ts [] small = refl
 small_all n ts (u ∷ us) small = let low = small u.place u.monomial in let e : is_small n ts u ≡ true = grind (arith, nat_tests, low) in rw e (small_all n ts us small)
 
-pub within-is : (ts : List FieldTerm) → are_within ts ≡ true → AreWithinLimits ts
+pub within-is : (ts : List FieldTerm) → are_within ts ≡ true → HaveSmallSums ts
 within-is ts h =
     let n = common_denominator ts in
     let tests = and_true (nat_lt n (2 ^ 127)) (list_all (is_small n ts) ts) h in
@@ -171,13 +171,13 @@ within-is ts h =
       sizes = λ s m. elim (all_small n ts ts tests.1 s m) [ inl none ↦ (omega arith) | inr low ↦ low ];
     }
 
-pub is-within : (ts : List FieldTerm) → AreWithinLimits ts → are_within ts ≡ true
+pub is-within : (ts : List FieldTerm) → HaveSmallSums ts → are_within ts ≡ true
 is-within ts h =
     let low = h.denominator in
     let e : nat_lt (common_denominator ts) (2 ^ 127) ≡ true = grind (arith, nat_tests, low) in
     rw e (small_all (common_denominator ts) ts ts h.sizes)
 
-pub not_within : (ts : List FieldTerm) → (AreWithinLimits ts → ⊥) → are_within ts ≡ false
+pub not_within : (ts : List FieldTerm) → (HaveSmallSums ts → ⊥) → are_within ts ≡ false
 not_within ts past = go (are_within ts) refl
   where
     go : (b : Bool) → are_within ts ≡ b → b ≡ false
@@ -235,7 +235,7 @@ size_grows n k s m (t ∷ ts) le h = go (is_at s m t) (amount_grows n k t le h.0
     go true p q = omega arith
     go false p q = omega arith
 
-pub within_front : (ts us : List FieldTerm) → Every HasDenominator ts → Every HasDenominator us → AreWithinLimits (ts ++ us) → AreWithinLimits ts
+pub within_front : (ts us : List FieldTerm) → Every HasDenominator ts → Every HasDenominator us → HaveSmallSums (ts ++ us) → HaveSmallSums ts
 within_front ts us some_ts some_us h =
     let whole = denominator_from-join 1 ts us in
     let grows : common_denominator ts ≤ common_denominator (ts ++ us) = (let g = denominator_grows (common_denominator ts) us some_us in omega arith) in
@@ -253,7 +253,7 @@ pub every_more : {X : Type 0} (Q : X → Type 0) (xs : List X) (x : X) → Every
 every_more Q [] x h k = (k, tt)
 every_more Q (y ∷ xs) x h k = (h.0, every_more Q xs x h.1 k)
 
-pub nothing_within : AreWithinLimits []
+pub nothing_within : HaveSmallSums []
 nothing_within = record { denominator = omega arith; sizes = λ s m. (let e : 0 < 2 ^ 127 = omega arith in e) }
 
 -- each term is over a denominator over which the sums are small
@@ -289,7 +289,7 @@ module _ (ts : List FieldTerm) (t : FieldTerm) (n : ℕ) (sizes : BTreeMap (Vec 
     put_none past = rw (not_within (ts ++ t ∷ []) (λ within. past (subst (λ k. AreSmallOver k (ts ++ t ∷ [])) common within.sizes))) refl
 
     module _ (new : BTreeMap (Vec (ℕ × ℕ)) ℕ) (sized : IsSized c (ts ++ t ∷ []) (Some new)) where
-      within : AreWithinLimits (ts ++ t ∷ [])
+      within : HaveSmallSums (ts ++ t ∷ [])
       within =
           let test = (some_if (nat_lt (common_multiple n t.over) (2 ^ 127)) c (common_multiple n t.over) is).0 in
           let low : common_multiple n t.over < 2 ^ 127 = grind (arith, nat_tests, test) in

@@ -8,14 +8,14 @@ use Rattle.lie_math.specs.Monomial.{Monomial, power_of, unit, ◌·◌}
 use Rattle.lie_scan.specs.declared.fault.BadKind.TheVariants.{Syntax, Number}
 use Rattle.lie_scan.specs.declared.stop.Stop.{Stop}
 use Rattle.lie_fieldtext.specs.declared.field_term.FieldTerm.{FieldTerm}
-use Rattle.lie_scan.specs.Exponents.{HasSmallExponents}
+use Rattle.lie_system.specs.Exponents.{HasSmallExponents}
 use Rattle.lie_scan.specs.Runs.{after_blanks}
 use Rattle.lie_scan.specs.Stops.{stop, ◌>>=◌}
 use Rattle.lie_scan.specs.Meaning.{product}
 use Rattle.lie_scan.specs.Turns.{Turn, goes_on, ends, after, turns, all_turns}
 use Rattle.lie_scan.specs.TokenGrammar.{IsNot, IsSign, AreBlanks}
 use Rattle.lie_scan.specs.SumGrammar.{sign_of, IsFirstSign}
-use Rattle.lie_fieldtext.specs.FieldMeaning.{AreWithinLimits}
+use Rattle.lie_fieldtext.specs.FieldMeaning.{HaveSmallSums}
 use Rattle.lie_fieldtext.specs.FieldGrammar.{IsBaseVector, AreVariablePowers, IsFieldTermFront, IsFieldTerm, AreFieldTerms, IsFieldSum, IsZeroText, HasFieldTerms}
 use Rattle.lie_fieldtext.specs.FieldFaults.{IsFieldTermFault, in_factor, high_exponent, no_further, IsFieldTermNext, first_term, further_term, IsFieldSumFault, in_term, past_limits, further_token}
 use Rattle.lie_fieldtext.specs.FieldReading.{coefficient_at, factor_turn, factors_at, field_term_at, are_within, put_by, signed_at, term_by, term_turn, sign_by, first_sign_at, sum_of, zero_by, is_zero, terms_of}
@@ -97,13 +97,13 @@ field_term_told names negative text =
 
 pub data IsSignedFault (names : List ℕ) (negative : Bool) (ts : List FieldTerm) (text : List ℕ) : Stop → Type 0 where
   faulty : (s : Stop) → IsFieldTermFault names text s → IsSignedFault names negative ts text s
-  too_large : (t : FieldTerm) (rest : List ℕ) → IsFieldTerm names text negative t rest → (AreWithinLimits (ts ++ t ∷ []) → ⊥) → IsSignedFault names negative ts text (stop Number (after_blanks text))
+  too_large : (t : FieldTerm) (rest : List ℕ) → IsFieldTerm names text negative t rest → (HaveSmallSums (ts ++ t ∷ []) → ⊥) → IsSignedFault names negative ts text (stop Number (after_blanks text))
 
 pub record IsSignedRead (names : List ℕ) (negative : Bool) (ts : List FieldTerm) (text : List ℕ) (x : List FieldTerm × List ℕ) : Type 0 where
   pub term : FieldTerm
   pub is : IsFieldTerm names text negative term x.1
   pub put : x.0 ≡ ts ++ term ∷ []
-  pub within : AreWithinLimits (ts ++ term ∷ [])
+  pub within : HaveSmallSums (ts ++ term ∷ [])
 
 pub signed_told : (names : List ℕ) (negative : Bool) (ts : List FieldTerm) (text : List ℕ) → Told (IsSignedRead names negative ts text) (IsSignedFault names negative ts text) (signed_at names negative ts text)
 unfolding signed_at
@@ -111,7 +111,7 @@ signed_told names negative ts text =
     told_bind (IsTermRead names negative text) (IsFieldTermFault names text) (IsSignedRead names negative ts text) (IsSignedFault names negative ts text) (field_term_at names negative text) _ (field_term_told names negative text)
     (λ t h. go t h (are_within (ts ++ t.0 ∷ [])) refl) (λ s f. faulty s f)
   where
-    past : (us : List FieldTerm) → are_within us ≡ false → AreWithinLimits us → ⊥
+    past : (us : List FieldTerm) → are_within us ≡ false → HaveSmallSums us → ⊥
     past us out within = clash (sym (is-within us within) ∙ out)
       where
         clash : true ≡ false → ⊥
@@ -129,17 +129,17 @@ pub record AreTermsTold (names : List ℕ) (ts : List FieldTerm) (text : List �
   pub are : AreFieldTerms names text terms rest
   pub blank : AreBlanks rest
   pub all : us ≡ ts ++ terms
-  pub within : AreWithinLimits us
+  pub within : HaveSmallSums us
 
 pub data IsTermsFault (names : List ℕ) (ts : List FieldTerm) (text : List ℕ) : Stop → Type 0 where
-  in_signed : (terms : List FieldTerm) (negative : Bool) (back front : List ℕ) (s : Stop) → AreFieldTerms names text terms back → IsSign (sign_of negative) back front → AreWithinLimits (ts ++ terms)
+  in_signed : (terms : List FieldTerm) (negative : Bool) (back front : List ℕ) (s : Stop) → AreFieldTerms names text terms back → IsSign (sign_of negative) back front → HaveSmallSums (ts ++ terms)
       → IsSignedFault names negative (ts ++ terms) front s → IsTermsFault names ts text s
-  no_sign : (terms : List FieldTerm) (rest : List ℕ) → AreFieldTerms names text terms rest → AreWithinLimits (ts ++ terms) → IsNot 43 (after_blanks rest) → IsNot 45 (after_blanks rest) → 1 ≤ length (after_blanks rest)
+  no_sign : (terms : List FieldTerm) (rest : List ℕ) → AreFieldTerms names text terms rest → HaveSmallSums (ts ++ terms) → IsNot 43 (after_blanks rest) → IsNot 45 (after_blanks rest) → 1 ≤ length (after_blanks rest)
       → IsTermsFault names ts text (stop Syntax (after_blanks rest))
 
 -- one turn: a signed term, or the end
 data IsTermStep (names : List ℕ) (ts : List FieldTerm) (text : List ℕ) : Turn (List FieldTerm) (List FieldTerm) → Type 0 where
-  by_sign : (negative : Bool) (front : List ℕ) (t : FieldTerm) (rest : List ℕ) → IsSign (sign_of negative) text front → IsFieldTerm names front negative t rest → AreWithinLimits (ts ++ t ∷ []) → IsTermStep names ts text (goes_on (ts ++ t ∷ []) rest)
+  by_sign : (negative : Bool) (front : List ℕ) (t : FieldTerm) (rest : List ℕ) → IsSign (sign_of negative) text front → IsFieldTerm names front negative t rest → HaveSmallSums (ts ++ t ∷ []) → IsTermStep names ts text (goes_on (ts ++ t ∷ []) rest)
   by_end : AreBlanks text → IsTermStep names ts text (ends ts)
 
 data IsTermStepFault (names : List ℕ) (ts : List FieldTerm) (text : List ℕ) : Stop → Type 0 where
@@ -170,8 +170,8 @@ module _ (names : List ℕ) where
       go [] at = by_end (blanks_only text at)
       go (c ∷ cs) at = by_tests c cs at signed
 
-  term_step : (n : ℕ) (ts : List FieldTerm) (text : List ℕ) → AreWithinLimits ts
-      → ((us : List FieldTerm) (rest : List ℕ) → length rest < length text → AreWithinLimits us → Told (AreTermsTold names us rest) (IsTermsFault names us rest) (turns (term_turn names) n us rest))
+  term_step : (n : ℕ) (ts : List FieldTerm) (text : List ℕ) → HaveSmallSums ts
+      → ((us : List FieldTerm) (rest : List ℕ) → length rest < length text → HaveSmallSums us → Told (AreTermsTold names us rest) (IsTermsFault names us rest) (turns (term_turn names) n us rest))
       → (t : Turn (List FieldTerm) (List FieldTerm)) → term_turn names ts text ≡ Ok t → IsTermStep names ts text t → Told (AreTermsTold names ts text) (IsTermsFault names ts text) (after (turns (term_turn names) n) t)
   term_step n ts text within again (goes_on us rest) is (by_sign negative front t behind sign term more) =
       let less : length behind < length text = subst (TurnWithin (length text)) is (term_turn_takes names ts text) in
@@ -182,24 +182,24 @@ module _ (names : List ℕ) where
     where
       later : (s : Stop) → IsTermsFault names (ts ++ t ∷ []) behind s → IsTermsFault names ts text s
       later s (in_signed terms other back begin r are mark low fault) =
-          in_signed (t ∷ terms) other back begin r (negative, front, behind, sign, term, are) mark (subst AreWithinLimits (append_assoc ts (t ∷ []) terms) low)
+          in_signed (t ∷ terms) other back begin r (negative, front, behind, sign, term, are) mark (subst HaveSmallSums (append_assoc ts (t ∷ []) terms) low)
           (subst (λ us. IsSignedFault names other us begin r) (append_assoc ts (t ∷ []) terms) fault)
       later s (no_sign terms last are low plus minus some) =
-          no_sign (t ∷ terms) last (negative, front, behind, sign, term, are) (subst AreWithinLimits (append_assoc ts (t ∷ []) terms) low) plus minus some
+          no_sign (t ∷ terms) last (negative, front, behind, sign, term, are) (subst HaveSmallSums (append_assoc ts (t ∷ []) terms) low) plus minus some
   term_step n ts text within again (ends us) is (by_end blank) = record { terms = []; rest = text; are = refl; blank = blank; all = sym (append-nil ts); within = within }
 
-  first_fault : (ts : List FieldTerm) (text : List ℕ) → AreWithinLimits ts → (s : Stop) → IsTermStepFault names ts text s → IsTermsFault names ts text s
+  first_fault : (ts : List FieldTerm) (text : List ℕ) → HaveSmallSums ts → (s : Stop) → IsTermStepFault names ts text s → IsTermsFault names ts text s
   first_fault ts text within s (signed_fault negative front r sign fault) =
-      in_signed [] negative text front r refl sign (subst AreWithinLimits (sym (append-nil ts)) within) (subst (λ us. IsSignedFault names negative us front r) (sym (append-nil ts)) fault)
-  first_fault ts text within s (token_fault plus minus some) = no_sign [] text refl (subst AreWithinLimits (sym (append-nil ts)) within) plus minus some
+      in_signed [] negative text front r refl sign (subst HaveSmallSums (sym (append-nil ts)) within) (subst (λ us. IsSignedFault names negative us front r) (sym (append-nil ts)) fault)
+  first_fault ts text within s (token_fault plus minus some) = no_sign [] text refl (subst HaveSmallSums (sym (append-nil ts)) within) plus minus some
 
-  term_turns_told : (n : ℕ) (ts : List FieldTerm) (text : List ℕ) → length text < n → AreWithinLimits ts → Told (AreTermsTold names ts text) (IsTermsFault names ts text) (turns (term_turn names) n ts text)
+  term_turns_told : (n : ℕ) (ts : List FieldTerm) (text : List ℕ) → length text < n → HaveSmallSums ts → Told (AreTermsTold names ts text) (IsTermsFault names ts text) (turns (term_turn names) n ts text)
   term_turns_told zero ts text less within = absurd (omega arith)
   term_turns_told (suc n) ts text less within =
       turn_bind (IsTermStep names ts text) (IsTermStepFault names ts text) (AreTermsTold names ts text) (IsTermsFault names ts text) (term_turn names ts text) (after (turns (term_turn names) n)) (step_told ts text)
       (term_step n ts text within (λ us rest shorter. term_turns_told n us rest (omega arith))) (first_fault ts text within)
 
-  terms_told : (ts : List FieldTerm) (text : List ℕ) → AreWithinLimits ts → Told (AreTermsTold names ts text) (IsTermsFault names ts text) (all_turns (term_turn names) ts text)
+  terms_told : (ts : List FieldTerm) (text : List ℕ) → HaveSmallSums ts → Told (AreTermsTold names ts text) (IsTermsFault names ts text) (all_turns (term_turn names) ts text)
   unfolding all_turns
   terms_told ts text within = term_turns_told (suc (length text)) ts text (omega arith) within
 
@@ -232,9 +232,9 @@ pub record IsSumTold (names text : List ℕ) (us : List FieldTerm) : Type 0 wher
   pub rest : List ℕ
   pub is : IsFieldSum names text us rest
   pub blank : AreBlanks rest
-  pub within : AreWithinLimits us
+  pub within : HaveSmallSums us
 
-from_signed : (names text : List ℕ) (negative : Bool) (terms : List FieldTerm) (front : List ℕ) (s : Stop) → IsFieldTermNext names text negative terms front → AreWithinLimits terms → IsSignedFault names negative terms front s → IsFieldSumFault names text s
+from_signed : (names text : List ℕ) (negative : Bool) (terms : List FieldTerm) (front : List ℕ) (s : Stop) → IsFieldTermNext names text negative terms front → HaveSmallSums terms → IsSignedFault names negative terms front s → IsFieldSumFault names text s
 from_signed names text negative terms front s next within (faulty r fault) = in_term negative terms front r next within fault
 from_signed names text negative terms front s next within (too_large t rest term past) = past_limits negative terms front t rest next within term past
 
@@ -245,7 +245,7 @@ sum_told names text =
     let front = (first_sign_at text).1 in
     let sign = sign_told text in
     told_bind (IsSignedRead names negative [] front) (IsSignedFault names negative [] front) (IsSumTold names text) (IsFieldSumFault names text) (signed_at names negative [] front) _ (signed_told names negative [] front) (λ x h.
-    told_map (AreTermsTold names x.0 x.1) (IsTermsFault names x.0 x.1) (IsSumTold names text) (IsFieldSumFault names text) (all_turns (term_turn names) x.0 x.1) (terms_told names x.0 x.1 (subst AreWithinLimits (sym h.put) h.within))
+    told_map (AreTermsTold names x.0 x.1) (IsTermsFault names x.0 x.1) (IsSumTold names text) (IsFieldSumFault names text) (all_turns (term_turn names) x.0 x.1) (terms_told names x.0 x.1 (subst HaveSmallSums (sym h.put) h.within))
     (λ us r. record {
       rest = r.rest;
       is = record { negative = negative; front = front; first = h.term; behind = x.1; further = r.terms; sign = sign; begins = h.is; goes_on = r.are; are = r.all ∙ ap (λ l. l ++ r.terms) h.put };
@@ -259,10 +259,10 @@ sum_told names text =
         let all : ts ++ terms ≡ t ∷ terms = ap (λ l. l ++ terms) put in
         from_signed names text other (t ∷ terms) begin r
         (further_term other (t ∷ terms) back begin (record { negative = negative; front = front; first = t; behind = behind; further = terms; sign = sign; begins = term; goes_on = are; are = refl }) mark)
-        (subst AreWithinLimits all low) (subst (λ us. IsSignedFault names other us begin r) all fault)
+        (subst HaveSmallSums all low) (subst (λ us. IsSignedFault names other us begin r) all fault)
     later negative front behind t ts sign term put s (no_sign terms last are low plus minus some) =
         further_token (t ∷ terms) last (record { negative = negative; front = front; first = t; behind = behind; further = terms; sign = sign; begins = term; goes_on = are; are = refl })
-        (subst AreWithinLimits (ap (λ l. l ++ terms) put) low) plus minus some
+        (subst HaveSmallSums (ap (λ l. l ++ terms) put) low) plus minus some
 
 -- ---- texts
 pub zero-is : (text : List ℕ) → is_zero text ≡ true → IsZeroText text
@@ -285,7 +285,7 @@ is-zero text h =
     ap zero_by at ∙ ap (λ (bs : List ℕ). length bs == 0) (only_blanks h.0 h.2)
 
 abbrev pub AreTextTerms : List ℕ → List ℕ → List FieldTerm → Type 0
-AreTextTerms names text us = HasFieldTerms names text us × AreWithinLimits us
+AreTextTerms names text us = HasFieldTerms names text us × HaveSmallSums us
 
 abbrev pub IsTextFault : List ℕ → List ℕ → Stop → Type 0
 IsTextFault names text s = (IsZeroText text → ⊥) × IsFieldSumFault names text s

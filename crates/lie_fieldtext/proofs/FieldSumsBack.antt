@@ -15,7 +15,7 @@ use Rattle.lie_scan.specs.Stops.{stop}
 use Rattle.lie_scan.specs.Turns.{goes_on, ends, all_turns}
 use Rattle.lie_scan.specs.TokenGrammar.{BeginsOutside, IsNot, IsSign, IsNumber, AreBlanks}
 use Rattle.lie_scan.specs.SumGrammar.{sign_of, IsFirstSign}
-use Rattle.lie_fieldtext.specs.FieldMeaning.{AreWithinLimits}
+use Rattle.lie_fieldtext.specs.FieldMeaning.{HaveSmallSums}
 use Rattle.lie_fieldtext.specs.FieldGrammar.{IsFraction, IsCoefficient, IsFieldTerm, AreFieldTerms, IsFieldSum, IsZeroText, HasFieldTerms}
 use Rattle.lie_fieldtext.specs.FieldFaults.{IsFieldTermFault, no_star, IsFieldTermNext, first_term, further_term, IsFieldSumFault, in_term, past_limits, further_token}
 use Rattle.lie_fieldtext.specs.FieldReading.{signed_at, term_by, term_turn, sign_by, first_sign_at, sum_of, is_zero, terms_of}
@@ -57,7 +57,7 @@ text_some names text ts h = elim h [
 
 -- ---- signed terms
 module _ (names : List ℕ) where
-  signed_is : (negative : Bool) (ts : List FieldTerm) (text : List ℕ) (t : FieldTerm) (rest : List ℕ) → IsFieldTerm names text negative t rest → AreWithinLimits (ts ++ t ∷ []) → signed_at names negative ts text ≡ Ok (ts ++ t ∷ [], rest)
+  signed_is : (negative : Bool) (ts : List FieldTerm) (text : List ℕ) (t : FieldTerm) (rest : List ℕ) → IsFieldTerm names text negative t rest → HaveSmallSums (ts ++ t ∷ []) → signed_at names negative ts text ≡ Ok (ts ++ t ∷ [], rest)
   unfolding signed_at
   signed_is negative ts text t rest h within = rw (term_is names negative text t rest h, is-within (ts ++ t ∷ []) within) refl
 
@@ -65,7 +65,7 @@ module _ (names : List ℕ) where
   unfolding signed_at
   signed_fails negative ts text s h = rw (term_fails names negative text s h) refl
 
-  signed_past : (negative : Bool) (ts : List FieldTerm) (text : List ℕ) (t : FieldTerm) (rest : List ℕ) → IsFieldTerm names text negative t rest → (AreWithinLimits (ts ++ t ∷ []) → ⊥) → signed_at names negative ts text ≡ Err (stop Number (after_blanks text))
+  signed_past : (negative : Bool) (ts : List FieldTerm) (text : List ℕ) (t : FieldTerm) (rest : List ℕ) → IsFieldTerm names text negative t rest → (HaveSmallSums (ts ++ t ∷ []) → ⊥) → signed_at names negative ts text ≡ Err (stop Number (after_blanks text))
   unfolding signed_at
   signed_past negative ts text t rest h past = rw (term_is names negative text t rest h, not_within (ts ++ t ∷ []) past) refl
 
@@ -85,14 +85,14 @@ module _ (names : List ℕ) where
   no_turn ts [] plus minus some = absurd (omega arith)
   no_turn ts (c ∷ cs) plus minus some = rw (plus, minus) refl
 
-  terms_pass : (ts : List FieldTerm) (text : List ℕ) (us : List FieldTerm) (rest : List ℕ) → Every HasDenominator ts → AreFieldTerms names text us rest → AreWithinLimits (ts ++ us)
+  terms_pass : (ts : List FieldTerm) (text : List ℕ) (us : List FieldTerm) (rest : List ℕ) → Every HasDenominator ts → AreFieldTerms names text us rest → HaveSmallSums (ts ++ us)
       → all_turns (term_turn names) ts text ≡ all_turns (term_turn names) (ts ++ us) rest
   terms_pass ts text [] rest some h within = ap (all_turns (term_turn names) ts) h ∙ ap (λ l. all_turns (term_turn names) l rest) (sym (append-nil ts))
   terms_pass ts text (u ∷ us) rest some h within =
       let all : ts ++ (u ∷ us) ≡ (ts ++ u ∷ []) ++ us = sym (append_assoc ts (u ∷ []) us) in
-      let whole : AreWithinLimits ((ts ++ u ∷ []) ++ us) = subst AreWithinLimits all within in
+      let whole : HaveSmallSums ((ts ++ u ∷ []) ++ us) = subst HaveSmallSums all within in
       let more : Every HasDenominator (ts ++ u ∷ []) = every_more HasDenominator ts u some (term_some names h.1 h.0 u h.2 h.4) in
-      let front : AreWithinLimits (ts ++ u ∷ []) = within_front (ts ++ u ∷ []) us more (terms_some names h.2 us rest h.5) whole in
+      let front : HaveSmallSums (ts ++ u ∷ []) = within_front (ts ++ u ∷ []) us more (terms_some names h.2 us rest h.5) whole in
       turns_on (term_turn names) (term_turn_takes names) ts text (ts ++ u ∷ []) h.2 (turn_is h.0 ts text h.1 (ts ++ u ∷ []) h.2 h.3 (signed_is h.0 ts h.1 u h.2 h.4 front))
       ∙ terms_pass (ts ++ u ∷ []) h.2 us rest more h.5 whole ∙ ap (λ l. all_turns (term_turn names) l rest) (sym all)
 
@@ -124,20 +124,20 @@ sign_is text negative front h = elim h [
     computed false = refl
 
 module _ (names : List ℕ) where
-  sum_pass : (text : List ℕ) (us : List FieldTerm) (rest : List ℕ) → IsFieldSum names text us rest → AreWithinLimits us → sum_of names text ≡ all_turns (term_turn names) us rest
+  sum_pass : (text : List ℕ) (us : List FieldTerm) (rest : List ℕ) → IsFieldSum names text us rest → HaveSmallSums us → sum_of names text ≡ all_turns (term_turn names) us rest
   unfolding sum_of
   sum_pass text us rest h within =
       let t = h.first in
       let some : Every HasDenominator (t ∷ []) = (term_some names h.front h.negative t h.behind h.begins, tt) in
-      let whole : AreWithinLimits ((t ∷ []) ++ h.further) = subst AreWithinLimits h.are within in
-      let front : AreWithinLimits (t ∷ []) = within_front (t ∷ []) h.further some (terms_some names h.behind h.further rest h.goes_on) whole in
+      let whole : HaveSmallSums ((t ∷ []) ++ h.further) = subst HaveSmallSums h.are within in
+      let front : HaveSmallSums (t ∷ []) = within_front (t ∷ []) h.further some (terms_some names h.behind h.further rest h.goes_on) whole in
       rw (sign_is text h.negative h.front h.sign, signed_is names h.negative [] h.front t h.behind h.begins front)
       (terms_pass names (t ∷ []) h.behind h.further rest some h.goes_on whole ∙ ap (λ l. all_turns (term_turn names) l rest) (sym h.are))
 
-  sum_is : (text : List ℕ) (us : List FieldTerm) (rest : List ℕ) → IsFieldSum names text us rest → AreBlanks rest → AreWithinLimits us → sum_of names text ≡ Ok us
+  sum_is : (text : List ℕ) (us : List FieldTerm) (rest : List ℕ) → IsFieldSum names text us rest → AreBlanks rest → HaveSmallSums us → sum_of names text ≡ Ok us
   sum_is text us rest h blank within = sum_pass text us rest h within ∙ turns_end (term_turn names) (term_turn_takes names) us rest us (turn_ends names us rest blank)
 
-  next_stops : (text : List ℕ) (negative : Bool) (terms : List FieldTerm) (front : List ℕ) (s : Stop) → IsFieldTermNext names text negative terms front → AreWithinLimits terms → signed_at names negative terms front ≡ Err s → sum_of names text ≡ Err s
+  next_stops : (text : List ℕ) (negative : Bool) (terms : List FieldTerm) (front : List ℕ) (s : Stop) → IsFieldTermNext names text negative terms front → HaveSmallSums terms → signed_at names negative terms front ≡ Err s → sum_of names text ≡ Err s
   unfolding sum_of
   next_stops text negative terms front s (first_term sign begin first) within stops = rw (sign_is text sign begin first, stops) refl
   next_stops text negative terms front s (further_term sign all back begin sum mark) within stops =
@@ -162,7 +162,7 @@ module _ (names : List ℕ) where
       let sign : IsFirstSign text false text = inr (refl, refl, subst (IsNot 43) (sym at) refl, subst (IsNot 45) (sym at) refl) in
       (stop Syntax (after_blanks rest), in_term false [] text (stop Syntax (after_blanks rest)) (first_term false text sign) nothing_within (no_star 0 1 rest fraction (blanks_not 42 rest z.2)))
 
-  sum_not_zero : (text : List ℕ) (us : List FieldTerm) (rest : List ℕ) → IsFieldSum names text us rest → AreBlanks rest → AreWithinLimits us → IsZeroText text → ⊥
+  sum_not_zero : (text : List ℕ) (us : List FieldTerm) (rest : List ℕ) → IsFieldSum names text us rest → AreBlanks rest → HaveSmallSums us → IsZeroText text → ⊥
   sum_not_zero text us rest h blank within z = clash (zero_fault text z).0 (sym (sum_is text us rest h blank within) ∙ sum_fails text (zero_fault text z).0 (zero_fault text z).1)
     where
       clash : (s : Stop) → ◌≡◌ {A = Result (List FieldTerm) Stop} (Ok us) (Err s) → ⊥

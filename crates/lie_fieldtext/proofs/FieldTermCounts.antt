@@ -4,7 +4,7 @@ use Rattle.std.specs.List.{AllByRecursion as Every}
 use Rattle.std.proofs.Common.{length-append, sym, ap, subst, inl, inr, arith}
 use Rattle.lie_scan.specs.declared.runs.Class.TheVariants.{Blank}
 use Rattle.lie_fieldtext.specs.declared.field_term.FieldTerm.{FieldTerm}
-use Rattle.lie_scan.specs.Exponents.{HasSmallExponents}
+use Rattle.lie_system.specs.Exponents.{HasSmallExponents}
 use Rattle.lie_scan.specs.Runs.{after_blanks}
 use Rattle.lie_scan.specs.Turns.{all_turns}
 use Rattle.lie_fieldtext.specs.FieldGrammar.{IsFieldTerm, AreFieldTerms, HasFieldTerms}

@@ -20,7 +20,7 @@ use Rattle.lie_scan.specs.Bad.{bad}
 use Rattle.lie_scan.specs.Names.{place_of}
 use Rattle.lie_scan.specs.Meaning.{product}
 use Rattle.lie_scan.specs.ReadFails.{ReadFails, Answers}
-use Rattle.lie_fieldtext.specs.FieldMeaning.{AreWithinLimits, IsSumOfTerms}
+use Rattle.lie_fieldtext.specs.FieldMeaning.{HaveSmallSums, IsSumOfTerms}
 use Rattle.lie_fieldtext.specs.FieldGrammar.{AreVariablePowers, IsFieldTerm, AreFieldTerms, HasFieldTerms, is_in_line, IsFieldText}
 use Rattle.lie_fieldtext.specs.FieldFaults.{not_in_line_from, IsFieldFault, too_long, not_allowed, in_sum, IsFieldFaultToldOf}
 use Rattle.lie_fieldtext.specs.FieldReading.{terms_of, placed, read_by, read_terms}
@@ -53,7 +53,7 @@ pub record AreTermsOf (names bytes : List ℕ) (ts : List FieldTerm) : Type 0 wh
   pub short : length bytes ≤ 65536
   pub allowed : Every (λ b. is_in_line b ≡ true) bytes
   pub has : HasFieldTerms names bytes ts
-  pub within : AreWithinLimits ts
+  pub within : HaveSmallSums ts
 
 -- what is read is the text's terms, and what is told is its first fault
 abbrev pub ReadTold : List ℕ → List ℕ → Result (List FieldTerm) ReadFail → Type 0

@@ -8,6 +8,7 @@ mod FieldBack
 mod FieldSumsBack
 mod FieldTexts
 pub mod FieldLaws
+mod FieldPlaces
 mod CommonDenominators
 mod FieldLimits
 mod FieldTermCounts

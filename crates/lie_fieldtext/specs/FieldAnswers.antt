@@ -32,10 +32,10 @@ use Rattle.lie_math.specs.CommonDivisors.{common_divisor}
 use Rattle.lie_fieldtext.specs.declared.field_factors.Factor.{Factor}
 use Rattle.lie_fieldtext.specs.declared.field_factors.Factor.TheVariants.{Base, Product}
 use Rattle.lie_fieldtext.specs.declared.field_term.FieldTerm.{FieldTerm}
-use Rattle.lie_scan.specs.Exponents.{HasSmallExponents}
+use Rattle.lie_system.specs.Exponents.{HasSmallExponents}
 use Rattle.lie_scan.specs.Turns.{Turn, goes_on, ends}
 use Rattle.lie_scan.specs.Sizes.{size_in, key_cmp}
-use Rattle.lie_fieldtext.specs.FieldMeaning.{common_denominator, amount_over, size_over, terms_over, AreWithinLimits}
+use Rattle.lie_fieldtext.specs.FieldMeaning.{common_denominator, amount_over, size_over, terms_over, HaveSmallSums}
 
 -- ---- turns
 -- a power goes on, and a base vector ends the term
@@ -82,7 +82,7 @@ pub record AreGathered (ts : List FieldTerm) (n : ℕ) (sizes : BTreeMap (Vec (�
   pub common : n ≡ common_denominator ts
   pub some : 1 ≤ n
   pub sized : AreSizesOver n sizes ts
-  pub within : AreWithinLimits ts
+  pub within : HaveSmallSums ts
 
 -- ---- parts
 -- the absolute value of a term over n is at most 2^127 - 1

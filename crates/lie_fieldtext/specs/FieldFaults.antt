@@ -26,12 +26,14 @@ use Rattle.std.specs.declared.option.Option.{Option}
 use Rattle.std.specs.declared.result.Result.{Result}
 use Rattle.std.specs.List.{AllByRecursion}
 use Rattle.lie_math.specs.Monomial.{unit, exponent, power_of, ◌·◌}
+use Rattle.lie_scan.specs.declared.fault.BadFile.{BadFile}
+use Rattle.lie_scan.specs.declared.fault.BadKind.{BadKind}
 use Rattle.lie_scan.specs.declared.fault.BadKind.TheVariants.{TooLong, NotAscii, Syntax, Number, UnknownName, Exponent}
 use Rattle.lie_scan.specs.declared.fault.ReadFail.{ReadFail}
 use Rattle.lie_scan.specs.declared.fault.ReadFail.TheVariants as reads
 use Rattle.lie_scan.specs.declared.runs.Class.TheVariants.{Letter, Digit}
 use Rattle.lie_scan.specs.declared.stop.Stop.{Stop}
-use Rattle.lie_scan.specs.Exponents.{HasSmallExponents}
+use Rattle.lie_system.specs.Exponents.{HasSmallExponents}
 use Rattle.lie_scan.specs.Runs.{after_blanks}
 use Rattle.lie_scan.specs.Stops.{stop}
 use Rattle.lie_scan.specs.Meaning.{product}
@@ -40,7 +42,7 @@ use Rattle.lie_scan.specs.TokenGrammar.{BeginsOutside, IsNot, IsBehindBlanks, Is
 use Rattle.lie_scan.specs.SumGrammar.{sign_of, IsFirstSign}
 use Rattle.lie_scan.specs.LineFaults.{IsLetters, IsName}
 use Rattle.lie_fieldtext.specs.declared.field_term.FieldTerm.{FieldTerm}
-use Rattle.lie_fieldtext.specs.FieldMeaning.{AreWithinLimits}
+use Rattle.lie_fieldtext.specs.FieldMeaning.{HaveSmallSums}
 use Rattle.lie_scan.specs.Limits.{greatest_text_length}
 use Rattle.lie_fieldtext.specs.FieldGrammar.{
   begins_base,
@@ -112,13 +114,13 @@ pub data IsFieldTermNext (names text : List ℕ) : Bool → List FieldTerm → L
 
 pub data IsFieldSumFault (names text : List ℕ) : Stop → Type 0 where
   in_term : (negative : Bool) (terms : List FieldTerm) (front : List ℕ) (s : Stop) → IsFieldTermNext names text negative terms front
-      → AreWithinLimits terms → IsFieldTermFault names front s → IsFieldSumFault names text s
+      → HaveSmallSums terms → IsFieldTermFault names front s → IsFieldSumFault names text s
   -- with this term the common denominator or a sum over it is past 2^127 - 1
   past_limits : (negative : Bool) (terms : List FieldTerm) (front : List ℕ) (t : FieldTerm) (rest : List ℕ)
-      → IsFieldTermNext names text negative terms front → AreWithinLimits terms → IsFieldTerm names front negative t rest
-      → (AreWithinLimits (terms ++ t ∷ []) → ⊥) → IsFieldSumFault names text (stop Number (after_blanks front))
+      → IsFieldTermNext names text negative terms front → HaveSmallSums terms → IsFieldTerm names front negative t rest
+      → (HaveSmallSums (terms ++ t ∷ []) → ⊥) → IsFieldSumFault names text (stop Number (after_blanks front))
   -- behind a term there is no sign
-  further_token : (terms : List FieldTerm) (rest : List ℕ) → IsFieldSum names text terms rest → AreWithinLimits terms
+  further_token : (terms : List FieldTerm) (rest : List ℕ) → IsFieldSum names text terms rest → HaveSmallSums terms
       → IsNot 43 (after_blanks rest) → IsNot 45 (after_blanks rest) → 1 ≤ length (after_blanks rest)
       → IsFieldSumFault names text (stop Syntax (after_blanks rest))
 
@@ -142,3 +144,24 @@ abbrev pub IsFieldFaultToldOf : {X : Type 0} → List ℕ → List ℕ → Resul
 IsFieldFaultToldOf names bytes (Ok x) = Unit {0}
 IsFieldFaultToldOf names bytes (Err reads.NoMemory) = Unit {0}
 IsFieldFaultToldOf names bytes (Err (reads.Bad b)) = IsFieldFault names bytes (reads.Bad b)
+
+-- ---- places
+-- there is a first byte, and it is not allowed
+abbrev pub BeginsNotAllowed : List ℕ → Type 0
+BeginsNotAllowed [] = ⊥
+BeginsNotAllowed (b ∷ bs) = is_in_line b ≡ false
+
+-- what is wrong begins with the rest
+abbrev pub IsWrongAt : List ℕ → List ℕ → List ℕ → List ℕ → BadKind → Type 0
+IsWrongAt names bytes before rest kind =
+    ((kind ≡ NotAscii) × AllByRecursion (λ b. is_in_line b ≡ true) before × BeginsNotAllowed rest)
+    ⊎ IsFieldSumFault names bytes (stop kind rest)
+
+-- before the place stand these bytes, on the one line and one less than its column says; what is wrong begins with the rest
+pub record IsFieldPlaceIn (names bytes : List ℕ) (bad : BadFile) : Type 0 where
+  pub before : List ℕ
+  pub rest : List ℕ
+  pub parted : bytes ≡ before ++ rest
+  pub line : bad.line ≡ 1
+  pub column : bad.column ≡ length before + 1
+  pub wrong : IsWrongAt names bytes before rest bad.kind

@@ -7,14 +7,14 @@ use Rattle.lie_math.specs.CommonDivisors.{common_divisor}
 use Rattle.lie_ring.specs.Ratios.{signed}
 use Rattle.lie_geometry.specs.Coordinates.{Space}
 use Rattle.lie_scan.specs.declared.runs.Class.TheVariants.{Letter, Digit}
-use Rattle.lie_scan.specs.Exponents.{HasSmallExponents}
+use Rattle.lie_system.specs.Exponents.{HasSmallExponents}
 use Rattle.lie_scan.specs.Runs.{is_in, after_blanks}
 use Rattle.lie_scan.specs.Names.{place_of}
 use Rattle.lie_scan.specs.Meaning.{product}
 use Rattle.lie_scan.specs.TokenGrammar.{BeginsOutside, IsNot, AreBlanks, IsBehindBlanks, IsSign, IsNumber, IsExponentAt}
 use Rattle.lie_scan.specs.SumGrammar.{sign_of, IsFirstSign}
 use Rattle.lie_fieldtext.specs.declared.field_term.FieldTerm.{FieldTerm}
-use Rattle.lie_fieldtext.specs.FieldMeaning.{AreWithinLimits, IsSumOfTerms}
+use Rattle.lie_fieldtext.specs.FieldMeaning.{HaveSmallSums, IsSumOfTerms}
 
 -- ---- base vectors and powers
 -- `d_` is next
@@ -127,5 +127,5 @@ pub record IsFieldText (S : Space) (names bytes : List ℕ) (V : VectorField) : 
   pub terms : List FieldTerm
   pub allowed : AllByRecursion (λ b. is_in_line b ≡ true) bytes
   pub has : HasFieldTerms names bytes terms
-  pub within : AreWithinLimits terms
+  pub within : HaveSmallSums terms
   pub means : IsSumOfTerms S terms V

@@ -43,7 +43,7 @@ terms_over n s (t ∷ ts) = if t.place == s then (t.monomial, t.number *ℤ pos 
 
 -- ---- the sum of terms
 -- the least common denominator, and over it the sums of the absolute values of like terms, are at most 2^127 - 1
-pub record AreWithinLimits (ts : List FieldTerm) : Type 0 where
+pub record HaveSmallSums (ts : List FieldTerm) : Type 0 where
   pub denominator : common_denominator ts < 2 ^ 127
   pub sizes : (s : ℕ) (m : Monomial) → size_over (common_denominator ts) s m ts < 2 ^ 127
 

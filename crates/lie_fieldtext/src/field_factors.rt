@@ -1,7 +1,7 @@
 // Powers of variables and base vectors.
 ghost use Rattle.std.specs.Prelude.{◌≡◌, ◌≤◌, ◌<◌, length, IfOk};
 ghost use Rattle.lie_scan.specs.Stops.{Gives, Reads};
-ghost use Rattle.lie_scan.specs.Exponents.{HasSmallExponents};
+ghost use Rattle.lie_system.specs.Exponents.{HasSmallExponents};
 ghost use Rattle.lie_fieldtext.specs.FieldReading.{name_at, variable_power_at, factor_turn, factors_at};
 ghost use Rattle.lie_fieldtext.specs.FieldAnswers.{factor_turn_of, HasSmallFactor};
 

@@ -5,7 +5,7 @@ ghost use Rattle.std.specs.List.{AllByRecursion as Every};
 ghost use Rattle.std.specs.Int.{◌∣◌};
 ghost use Rattle.lie_math.specs.Limits.{IsWithinLimits, absolutes, greatest_term_count};
 ghost use Rattle.lie_math.specs.Polynomial.{polynomial_of, constant, 0ᴾ, ◌*ᴾ◌};
-ghost use Rattle.lie_scan.specs.Exponents.{HasSmallExponents};
+ghost use Rattle.lie_system.specs.Exponents.{HasSmallExponents};
 ghost use Rattle.lie_fieldtext.specs.FieldMeaning.{terms_over, IsSumOfTerms};
 ghost use Rattle.lie_fieldtext.specs.FieldAnswers.{IsTermOver, IsTermIn, ArePartsWithin, ArePartsOver};
 ghost use Rattle.lie_fieldtext.specs.FieldAnswers.{content_from, contents_from, times_entries};
@@ -152,13 +152,6 @@ fn push_divided(
     Ok(list)
 }
 
-// Every polynomial is within the limits: what its length tells.
-fn known_within_limits(part: &JetPoly)
-    ensures { IsWithinLimits part.now }
-{
-    let _length = part.len();
-}
-
 // A part divided by a number that divides each coefficient.
 fn divided(alloc: Global, divisor: u128, part: &JetPoly) -> Result<JetPoly, NoMemory>
     requires some { 1 ≤ divisor }
@@ -167,7 +160,7 @@ fn divided(alloc: Global, divisor: u128, part: &JetPoly) -> Result<JetPoly, NoMe
     ensures { IfOk result (λ rest. constant (pos divisor) *ᴾ rest ≡ part.now) }
 {
     let mut list: Vec<(Mono, Whole)> = Vec::new(alloc);
-    known_within_limits(part);
+    part.is_within_limits();
     let terms = part.terms(alloc)?;
     for term in terms.as_slice() {
         list = push_divided(list, alloc, divisor, term)?;

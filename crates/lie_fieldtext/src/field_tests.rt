@@ -1,11 +1,12 @@
 // Field texts and their faults, with values and places from a model that was written apart.
+ghost use Rattle.std.specs.Prelude.{◌≤◌, ◌<◌};
 
 use crate::read_field;
 use lie_bytes::{NoMemory, Text};
-use lie_jet::{Field, Space};
+use lie_jet::{Field, JetPoly, Space};
 use lie_ring::Polynomial;
 use lie_scan::fault::{BadFile, BadKind, ReadFail};
-use lie_system::System;
+use lie_system::{Equation, System};
 use std::alloc::Global;
 use std::process::Abort;
 use std::test::Fail;
@@ -13,13 +14,21 @@ use std::test::Fail;
 // No terms.
 const NOTHING: [i128; 0] = [];
 
-// A system without equations, with the names `x`, a second one, and `u` for the dependent variable.
-pub fn system_of(alloc: Global, second: u8) -> Result<System, Fail> {
+// The system of the equation `0 = 0`, with the names `x`, a second one before `u`, and `u` for the dependent variable.
+pub fn system_of(alloc: Global, second: u8) -> Result<System, Fail>
+    requires letter { 97 ≤ second }
+    requires before { second < 117 }
+{
+    let mut equations = Vec::new(alloc);
+    equations.push(Equation {
+        lead: None,
+        diff: JetPoly::zero(alloc),
+    })?;
     match Text::of(alloc, [b'x', second, b'u'].as_slice())? {
         Some(names) => Ok(System {
             space: Space { p: 2, q: 1 },
             names,
-            equations: Vec::new(alloc),
+            equations,
         }),
         None => Err(Fail::from("the names are no text")),
     }
@@ -50,7 +59,10 @@ pub fn wants_field(
     text: &str,
     den: u128,
     terms: &[i128],
-) -> Result<(), Fail> {
+) -> Result<(), Fail>
+    requires letter { 97 ≤ second }
+    requires before { second < 117 }
+{
     let system = system_of(alloc, second)?;
     let field = read_field(alloc, text.as_bytes(), &system)
         .ok()
@@ -69,7 +81,10 @@ pub fn wants_fault(
     text: &str,
     column: u32,
     kind: BadKind,
-) -> Result<(), Fail> {
+) -> Result<(), Fail>
+    requires letter { 97 ≤ second }
+    requires before { second < 117 }
+{
     let system = system_of(alloc, second)?;
     let fault = match read_field(alloc, text.as_bytes(), &system) {
         Err(ReadFail::Bad(fault)) => Some(fault),

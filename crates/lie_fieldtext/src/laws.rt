@@ -4,11 +4,14 @@ ghost use Rattle.std.specs.Int.{◌∣◌};
 ghost use Rattle.std.specs.List.{AllByRecursion as Every};
 ghost use Rattle.lie_math.specs.VectorField.{VectorField};
 ghost use Rattle.lie_geometry.specs.Coordinates.{Space};
+ghost use Rattle.lie_scan.specs.declared.fault.BadFile.{BadFile as ABadFile};
+ghost use Rattle.lie_scan.specs.declared.fault.BadKind.TheVariants.{TooLong as IsTooLong};
 ghost use Rattle.lie_scan.specs.declared.fault.ReadFail.{ReadFail as AFault};
+ghost use Rattle.lie_scan.specs.declared.fault.ReadFail.TheVariants.{Bad as ABad};
 ghost use Rattle.lie_fieldtext.specs.declared.field_term.FieldTerm.{FieldTerm as ATerm};
 ghost use Rattle.lie_fieldtext.specs.FieldMeaning.{common_denominator};
 ghost use Rattle.lie_fieldtext.specs.FieldGrammar.{IsFieldText};
-ghost use Rattle.lie_fieldtext.specs.FieldFaults.{IsFieldFault};
+ghost use Rattle.lie_fieldtext.specs.FieldFaults.{IsFieldFault, IsFieldPlaceIn};
 
 /// A text of any length is that of one field at most.
 pub fn texts_have_one_field()
@@ -26,6 +29,13 @@ pub fn texts_have_a_field_or_a_fault()
     ensures { (space : Space) (names bytes : List ℕ) → length names ≡ space.p + space.q
         → ((V : VectorField) × IsFieldText space names bytes V × ((f : AFault) → IsFieldFault names bytes f → ⊥))
         ⊎ ((f : AFault) × IsFieldFault names bytes f) }
+{}
+
+/// The place of a fault is one in the text, its column counted from what stands before it, and what is wrong begins there, unless the
+/// text is too long.
+pub fn field_faults_have_places()
+    ensures { (names bytes : List ℕ) (bad : ABadFile) → IsFieldFault names bytes (ABad bad) → ¬ (bad.kind ≡ IsTooLong)
+        → IsFieldPlaceIn names bytes bad }
 {}
 
 /// The common denominator of terms is the least: each of their denominators divides it, and it divides each number that they all divide.

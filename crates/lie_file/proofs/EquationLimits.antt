@@ -5,7 +5,7 @@ use Rattle.lie_math.specs.Limits.{IsWithinLimits, absolutes}
 use Rattle.lie_math.specs.Monomial.{Monomial}
 use Rattle.lie_math.specs.Polynomial.{polynomial_of}
 use Rattle.lie_geometry.specs.Coordinates.{Space}
-use Rattle.lie_scan.specs.Exponents.{HasSmallExponents}
+use Rattle.lie_system.specs.Exponents.{HasSmallExponents}
 use Rattle.lie_scan.specs.SumGrammar.{AreTerms, IsSum}
 use Rattle.lie_scan.specs.Terms.{equation_of}
 use Rattle.lie_file.proofs.EquationLaws.{equation_of-is}

@@ -1,17 +1,47 @@
--- The equations of a file are in coordinates of orders up to 6.
-use Rattle.std.specs.Prelude.{◌≡◌, ℕ, ◌+◌, ◌-◌, ◌≤◌, List, [], ◌∷◌, length, map, Option, Some, None, Ok, IfSome, codes}
-use Rattle.std.proofs.Common.{sym, ap, subst, arith}
+-- The system of a file can be written: its equations are in coordinates of orders up to 6, and its names are letters that differ.
+use Rattle.std.specs.Prelude.{
+  ◌≡◌,
+  ℕ,
+  ◌+◌,
+  ◌-◌,
+  ◌≤◌,
+  ◌<◌,
+  ◌^◌,
+  unsigned_abs,
+  List,
+  [],
+  ◌∷◌,
+  ◌++◌,
+  length,
+  map,
+  Option,
+  Some,
+  None,
+  Ok,
+  IfSome,
+  codes,
+}
+use Rattle.std.proofs.Common.{sym, ap, subst, ◌∙◌, arith}
 use Rattle.std.specs.List.{AllByRecursion as Every}
 use Rattle.std.proofs.lemmas.Bool.Decides.{leb_tells}
+use Rattle.std.proofs.lemmas.List.{length-map}
+use Rattle.lie_math.specs.FiniteSumLaws.{value-of}
+use Rattle.lie_math.specs.Integer.{coefficients}
+use Rattle.lie_math.specs.Monomial.{monomial_cmp}
+use Rattle.lie_math.specs.Polynomial.{WholePolynomial, terms, coefficient}
+use Rattle.lie_math.specs.SortedSum.{value_at}
 use Rattle.lie_geometry.specs.Coordinates.{Space, Coordinate, coordinates_up_to}
 use Rattle.lie_jet.specs.Jets.{IsSmall}
 use Rattle.lie_system.specs.Systems.{EquationRead, SystemRead}
 use Rattle.lie_scan.specs.SumGrammar.{HasLead, IsEquation}
 use Rattle.lie_file.specs.FileGrammar.{AreEquations, AreSystem, IsFile}
 use Rattle.lie_scan.proofs.FileCoordinates.{coordinate_good}
+use Rattle.lie_scan.proofs.TermLimits.{value_bound}
+use Rattle.lie_file.proofs.DistinctNames.{system_letters}
 use Rattle.lie_file.proofs.FileTerms.{equation_low}
+use Rattle.lie_file.proofs.LeadSides.{lead_room}
 use Rattle.lie_file.proofs.WellNamed.{well_named}
-use Rattle.lie_system.specs.Written.{IsLow, IsWritten, AreWritten}
+use Rattle.lie_system.specs.Written.{AreDistinctLetters, IsLow, IsWritten, AreWritten, HasRoomBeside, HasWrittenSides, IsWrittenSystem}
 use Rattle.lie_system.specs.declared.equation.Equation.{Equation}
 use Rattle.lie_system.specs.Equations.{equation_read, HasJet, AreKept}
 use Rattle.lie_system.proofs.KeptEquations.{written_kept}
@@ -30,6 +60,30 @@ module _ (S : Space) (small : IsSmall S) (names : List ℕ) (many : length names
     diff = λ v out m n. (equation_low S small names many text e h m n).variables v (let k : coordinates_up_to S 6 ≤ v = grind (arith, leb_tells) in k);
   }
 
+  lead_sides : (text : List ℕ) (e : EquationRead) → IsEquation S names text e → (lead : Option Coordinate) → HasLead S names text lead
+      → IfSome lead (HasRoomBeside S e.diff)
+  lead_sides text e h None k = tt
+  lead_sides text e h (Some c) k = lead_room S names text e c h k
+
+  equation_sides : (text : List ℕ) (e : EquationRead) → IsEquation S names text e → HasWrittenSides S e
+  equation_sides text e h = record {
+    exponents = λ m n. (equation_low S small names many text e h m n).exponents;
+    numbers = λ m.
+        let at : coefficient e.diff m ≡ value_at monomial_cmp coefficients m (h.left ++ h.right) =
+        ap (λ (p : WholePolynomial). coefficient p m) h.means ∙ value-of terms (h.left ++ h.right) m in
+        let same = ap unsigned_abs at in
+        let bound = value_bound m (h.left ++ h.right) in
+        let low = h.small m in
+        let fits : unsigned_abs (coefficient e.diff m) < 2 ^ 127 = omega arith in
+        fits;
+    lead = lead_sides text e h e.lead h.lead;
+  }
+
+  equations_sides : (lines : List (List ℕ)) (es : List EquationRead) → AreEquations S names lines es → Every (HasWrittenSides S) es
+  equations_sides [] es h = absurd h
+  equations_sides (l ∷ ls) [] h = tt
+  equations_sides (l ∷ ls) (e ∷ es) h = (equation_sides h.0.0 e h.0.2, equations_sides ls es h.1)
+
   equations_written : (lines : List (List ℕ)) (es : List EquationRead) → AreEquations S names lines es → Every (IsWritten S) es
   equations_written [] es h = absurd h
   equations_written (l ∷ ls) [] h = tt
@@ -40,21 +94,45 @@ system_written contents s h =
     let n = well_named contents s h in
     record { few = h.few; equations = equations_written s.space n.small s.names n.many h.body s.equations h.body_is }
 
--- what is the file of a system has at most 16 equations in coordinates of orders up to 6
-pub file_is_written : (bytes : List ℕ) (s : SystemRead) → IsFile bytes s → AreWritten s.space s.equations
-file_is_written bytes s h = system_written _ s h.system
+all_written : (contents : List (List ℕ)) (s : SystemRead) → AreSystem contents s → IsWrittenSystem s
+all_written contents s h =
+    let n = well_named contents s h in
+    record {
+      small = n.small;
+      named = n.many;
+      letters = system_letters contents s h;
+      some = h.some;
+      written = system_written contents s h;
+      sides = equations_sides s.space n.small s.names n.many h.body s.equations h.body_is;
+    }
 
--- the equations that are read with jets as leads are kept, and there is a name for each variable
+-- the system of a file
+pub file_is_written : (bytes : List ℕ) (s : SystemRead) → IsFile bytes s → IsWrittenSystem s
+file_is_written bytes s h = all_written _ s h.system
+
+-- the equations that are read with jets as leads are kept, and there is a letter for each variable
 pub record IsKeptSystem (S : Space) (names : List ℕ) (es : List Equation) : Type 0 where
   pub small : IsSmall S
   pub named : length names ≡ S.p + S.q
+  pub letters : AreDistinctLetters names
+  pub some : 1 ≤ length es
   pub kept : AreKept S es
+  pub sides : Every (HasWrittenSides S) (map (equation_read S) es)
 
 read_is_kept : (lines : List (List ℕ)) (S : Space) (names : List ℕ) (es : List Equation) → system_of lines ≡ Ok (record { space = S; names = names; equations = map (equation_read S) es }) → Every (HasJet S) es → IsKeptSystem S names es
 read_is_kept lines S names es read jets =
     let h = system_of-is lines _ read in
-    let n = well_named _ _ h in
-    record { small = n.small; named = n.many; kept = written_kept S es jets (system_written _ _ h) }
+    let w = all_written _ _ h in
+    let count = length-map es (equation_read S) in
+    let some = w.some in
+    record {
+      small = w.small;
+      named = w.named;
+      letters = w.letters;
+      some = omega arith;
+      kept = written_kept S es jets w.written;
+      sides = w.sides;
+    }
 
 same_space : (S : Space) (p q : ℕ) → S.p ≡ p → S.q ≡ q → S ≡ record { p = p; q = q }
 same_space S p q e f = λ i. record { p = e i; q = f i }

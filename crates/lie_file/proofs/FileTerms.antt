@@ -11,7 +11,7 @@ use Rattle.lie_math.proofs.Monomial.{exponent-·, exponent-power_of}
 use Rattle.lie_geometry.specs.Coordinates.{Space, coordinates_up_to}
 use Rattle.lie_jet.specs.Jets.{IsSmall}
 use Rattle.lie_jet.specs.Listed.{HasVariablesBelow}
-use Rattle.lie_scan.specs.Exponents.{HasSmallExponents}
+use Rattle.lie_system.specs.Exponents.{HasSmallExponents}
 use Rattle.lie_system.specs.Systems.{EquationRead}
 use Rattle.lie_scan.specs.Meaning.{product}
 use Rattle.lie_scan.specs.TokenGrammar.{IsPower}
@@ -32,7 +32,7 @@ module _ (S : Space) (small : IsSmall S) (names : List ℕ) (many : length names
 
   power_few : (text : List ℕ) (p : ℕ × ℕ) (rest : List ℕ) → IsPower S names text p rest → IsFew p
   power_few text p rest h =
-      subst (λ w. w < coordinates_up_to S 6) (sym h.means) (good_number S small names many h.coordinate (coordinate_good S small names many text h.coordinate h.behind h.base))
+      subst (λ w. w < coordinates_up_to S 6) (sym h.means) (good_number S small h.coordinate (coordinate_good S small names many text h.coordinate h.behind h.base))
 
   factors_few : (text : List ℕ) (ps : List (ℕ × ℕ)) (rest : List ℕ) → AreFactors S names text ps rest → Every IsFew ps
   factors_few text [] rest h = tt

@@ -17,4 +17,6 @@ mod ShortLines
 pub mod FaultPlaces
 mod NameBytes
 pub mod WellNamed
+pub mod DistinctNames
+pub mod LeadSides
 pub mod FileEquations

@@ -31,7 +31,8 @@ use Rattle.lie_file.specs.Places.{next_line, fault_at, placed, last_length, file
 use Rattle.lie_scan.specs.Bad.{bad}
 use Rattle.lie_scan.specs.LineFaults.{IsEquationFault}
 use Rattle.lie_scan.specs.Limits.{greatest_text_length}
-use Rattle.lie_system.specs.Limits.{greatest_variable_count, greatest_equation_count}
+use Rattle.lie_jet.specs.Limits.{greatest_variable_count}
+use Rattle.lie_system.specs.Limits.{greatest_equation_count}
 
 -- ---- where the names of a line must come
 abbrev pub IsLetter : List ℕ → Type 0

@@ -7,7 +7,8 @@ use Rattle.lie_scan.specs.Runs.{is_in, run, after_blanks}
 use Rattle.lie_system.specs.Systems.{EquationRead, SystemRead}
 use Rattle.lie_scan.specs.TokenGrammar.{AreBlanks, IsBehindBlanks}
 use Rattle.lie_scan.specs.SumGrammar.{IsEquation}
-use Rattle.lie_system.specs.Limits.{greatest_variable_count, greatest_equation_count}
+use Rattle.lie_jet.specs.Limits.{greatest_variable_count}
+use Rattle.lie_system.specs.Limits.{greatest_equation_count}
 
 -- ---- words
 -- a blank is next, or nothing

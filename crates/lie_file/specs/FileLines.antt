@@ -38,7 +38,7 @@ use Rattle.lie_scan.specs.Stops.{stop, ◌>>=◌}
 use Rattle.lie_file.specs.Places.{fault_at, placed, next_line}
 use Rattle.lie_scan.specs.Turns.{Turn, goes_on, ends, all_turns}
 use Rattle.lie_scan.specs.Limits.{greatest_text_length}
-use Rattle.lie_system.specs.Limits.{greatest_variable_count}
+use Rattle.lie_jet.specs.Limits.{greatest_variable_count}
 
 -- what a call answered, seen by view, is what reading gives, unless memory ran out
 abbrev pub FileFails : {Y : Type 0} → FileFail → Result Y FileFail → Type 0

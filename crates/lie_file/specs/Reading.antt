@@ -4,7 +4,6 @@ use Rattle.std.specs.declared.option.Option.{Option}
 use Rattle.std.specs.declared.result.Result.{Result}
 use Rattle.lie_scan.specs.declared.fault.BadKind.TheVariants.{TooLong, NotAscii}
 use Rattle.lie_scan.specs.declared.fault.ReadFail.{ReadFail}
-use Rattle.lie_scan.specs.declared.fault.ReadFail.TheVariants as reads
 use Rattle.lie_file.specs.declared.lines.FileFail.{FileFail}
 use Rattle.lie_scan.specs.Bad.{bad}
 use Rattle.lie_file.specs.Places.{file_fault, not_allowed_from}

@@ -2,6 +2,7 @@
 ghost use Rattle.std.specs.Prelude.{ℕ, List, ◌≡◌, ◌⊎◌, ◌+◌, length};
 ghost use Rattle.lie_scan.specs.declared.fault.ReadFail.{ReadFail as AFault};
 ghost use Rattle.lie_system.specs.Systems.{SystemRead};
+ghost use Rattle.lie_system.specs.Written.{IsWrittenSystem};
 ghost use Rattle.lie_file.specs.FileGrammar.{IsFile};
 ghost use Rattle.lie_file.specs.FileFaults.{IsFault, IsPlaceIn};
 ghost use Rattle.lie_scan.specs.declared.fault.BadFile.{BadFile as ABadFile};
@@ -16,6 +17,11 @@ pub fn files_have_one_system()
 /// The system of a file has a name for each variable, as reading a field text asks.
 pub fn systems_name_each_variable()
     ensures { (bytes : List ℕ) (s : SystemRead) → IsFile bytes s → length s.names ≡ s.space.p + s.space.q }
+{}
+
+/// The system of a file can be written: its names are letters that differ, and its equations have two sides within the limits.
+pub fn file_systems_are_written()
+    ensures { (bytes : List ℕ) (s : SystemRead) → IsFile bytes s → IsWrittenSystem s }
 {}
 
 /// A text has one first fault at most.

@@ -2,7 +2,7 @@
 ghost use Rattle.std.specs.Prelude.{◌≡◌, ◌+◌, length, option_map, IfSome};
 ghost use Rattle.lie_jet.specs.Jets.{coordinate_of, IsJet};
 ghost use Rattle.lie_file.specs.Leads.{not_zeros, lead_of};
-ghost use Rattle.lie_system.specs.Limits.{greatest_jet_order};
+ghost use Rattle.lie_jet.specs.Limits.{greatest_jet_order};
 
 use lie_jet::{Jet, Space};
 use lie_scan::coordinate::{Variable, coordinate_at};

@@ -5,7 +5,7 @@ ghost use Rattle.lie_scan.specs.Stops.{Gives, Reads};
 ghost use Rattle.lie_file.specs.FileLines.{ReadsFile, is_header, after_header, name_of, name_turn, names_at, names_of, name_turn_of};
 ghost use Rattle.lie_scan.specs.Turns.{all_turns};
 ghost use Rattle.lie_scan.specs.Limits.{greatest_text_length};
-ghost use Rattle.lie_system.specs.Limits.{greatest_variable_count};
+ghost use Rattle.lie_jet.specs.Limits.{greatest_variable_count};
 
 use crate::lines::{FileFail, FileStop, behind_word, failed, fault_at, is_word, next_line};
 use lie_scan::fault::BadKind;

@@ -4,7 +4,7 @@ use Rattle.lie_math.specs.Derivation.{is_below}
 use Rattle.lie_math.specs.Variables.{FreeOf, IsIn}
 use Rattle.lie_geometry.specs.Coordinates.{Space, coordinates_up_to, number}
 use Rattle.lie_jet.specs.Jets.{coordinate_of, IsJet}
-use Rattle.lie_system.specs.Limits.{greatest_written_order}
+use Rattle.lie_jet.specs.Limits.{greatest_written_order}
 use Rattle.lie_solved.specs.declared.solved.LeadRule.{LeadRule}
 
 -- the lead is a jet of a written order, its factor is not 0, and the right side is in coordinates of written orders without the lead

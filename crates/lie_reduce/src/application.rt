@@ -8,12 +8,11 @@ ghost use Rattle.lie_geometry.specs.SolvedEquations.{difference};
 ghost use Rattle.lie_ring.specs.Causes.{IsCause};
 ghost use Rattle.lie_poly.specs.Failures.{IsStarved};
 ghost use Rattle.lie_jet.specs.Jets.{IsJet};
-ghost use Rattle.lie_system.specs.Limits.{greatest_jet_order};
+ghost use Rattle.lie_jet.specs.Limits.{greatest_jet_order};
 ghost use Rattle.lie_solved.specs.SolvedForms.{solved_equation};
 ghost use Rattle.lie_jet.specs.Listed.{sum_listed, bulk_listed};
 ghost use Rattle.lie_reduce.specs.Applications.{applied_to, absolute_coefficients, lead_number, rule_sides, sides_bulk};
 
-use crate::limits::known_within_limits;
 use crate::reduction::push_terms;
 use crate::sizes::absolute_rule;
 use lie_jet::{JetPoly, Space, absolute_polynomial, jet_number};
@@ -130,6 +129,6 @@ pub fn applied_field(
     let absolute = absolute_rule(alloc, rule)?;
     let absolutes = absolute_coefficients(alloc, coefficients)?;
     let bulk = applied(alloc, &absolute, lead, Whole::one(), absolutes.as_slice())?;
-    known_within_limits(&bulk);
+    bulk.is_within_limits();
     applied(alloc, rule, lead, Whole::one().neg(), coefficients)
 }

@@ -3,7 +3,6 @@
 
 mod application;
 mod exponents;
-mod limits;
 mod occurrences;
 mod order;
 mod powers;
@@ -12,7 +11,6 @@ mod sizes;
 
 pub use application::{applied_field, derivative_of_sides};
 pub use exponents::greatest_exponents;
-pub use limits::known_within_limits;
 pub use occurrences::occurring_numbers;
 pub use order::greatest_order;
 pub use reduction::{reduced, reduced_all};

@@ -1,5 +1,6 @@
 // The coordinates that occur in the equations of rules.
 ghost use Rattle.std.specs.Prelude.{◌≡◌, ◌++◌, ◌∷◌, IfOk, OnOk};
+ghost use Rattle.lie_jet.specs.Limits.{greatest_written_order};
 ghost use Rattle.lie_jet.specs.Jets.{IsJet};
 ghost use Rattle.lie_solved.specs.Equations.{HaveJets, variables_in, variables_of};
 ghost use Rattle.lie_reduce.specs.Occurrences.{AreAmong, numbers_of_rule};
@@ -37,7 +38,7 @@ fn push_coordinates(
     space: Space,
     rule: &LeadRule,
 ) -> Result<(), NoMemory>
-    requires { IsJet space 6 rule.now.lead }
+    requires { IsJet space greatest_written_order rule.now.lead }
     ensures { OnOk result (numbers.new.items ≡ numbers.old.items ++ numbers_of_rule space rule.now) }
 {
     let terms = rule.right.terms(alloc)?;

@@ -4,7 +4,7 @@ ghost use Rattle.lie_math.specs.Natural.{maxima};
 ghost use Rattle.lie_math.specs.SortedSum.{sum_of_entries};
 ghost use Rattle.lie_geometry.specs.Coordinates.{coordinate, coordinates_up_to, order_of as order_of_coordinate};
 ghost use Rattle.lie_geometry.specs.Invariance.{greatest_order};
-ghost use Rattle.lie_system.specs.Limits.{greatest_written_order};
+ghost use Rattle.lie_jet.specs.Limits.{greatest_written_order};
 ghost use Rattle.lie_solved.specs.SolvedForms.{solved_equations};
 ghost use Rattle.lie_solved.specs.SolvedRules.{AreSolvedRules};
 

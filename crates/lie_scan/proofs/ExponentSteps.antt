@@ -10,7 +10,7 @@ use Rattle.lie_ring.specs.declared.failures.PastKind.{PastKind}
 use Rattle.lie_ring.specs.declared.failures.PastKind.TheVariants.{Coefficient, Exponent, Terms, Order, Unknowns, Width}
 use Rattle.lie_ring.specs.declared.failures.PolyFail.TheVariants.{Past}
 use Rattle.lie_ring.specs.Causes.{IsProductCause}
-use Rattle.lie_scan.specs.Exponents.{HasSmallExponents}
+use Rattle.lie_system.specs.Exponents.{HasSmallExponents}
 
 pub unit_small : HasSmallExponents unit
 unit_small v = let e : exponent unit v ≡ 0 = value-none powers v in omega arith

@@ -10,7 +10,7 @@ use Rattle.lie_scan.specs.declared.fault.BadKind.TheVariants.{Exponent}
 use Rattle.lie_scan.specs.declared.stop.Stop.{Stop}
 use Rattle.lie_scan.specs.Runs.{after_blanks}
 use Rattle.lie_scan.specs.Stops.{stop, ◌>>=◌}
-use Rattle.lie_scan.specs.Exponents.{HasSmallExponents}
+use Rattle.lie_system.specs.Exponents.{HasSmallExponents}
 use Rattle.lie_scan.specs.Meaning.{product}
 use Rattle.lie_scan.specs.Tokens.{power_at}
 use Rattle.lie_scan.specs.Turns.{Turn, goes_on, ends, after, turns, all_turns}

@@ -92,8 +92,10 @@ module _ (S : Space) (small : IsSmall S) (names : List ℕ) (many : length names
       go (inl v) = subst (IsGood S) (sym (v.0).means) (variable_good (v.0).place (let b = place_bound 0 names (v.0).letter (v.0).place (v.0).named in omega arith))
       go (inr d) = derivative_good h.word c d
 
-  pub good_number : (c : Coordinate) → IsGood S c → number S c < coordinates_up_to S 6
-  good_number c h = (order_below S small.some_p small.some_q (number S c) 6).0 (subst (λ d. order_of d ≤ 6) (sym (coordinate-number S small.some_p small.some_q c h.coordinate)) h.low)
+pub good_number : (S : Space) → IsSmall S → (c : Coordinate) → IsGood S c → number S c < coordinates_up_to S 6
+good_number S small c h =
+    (order_below S small.some_p small.some_q (number S c) 6).0
+    (subst (λ d. order_of d ≤ 6) (sym (coordinate-number S small.some_p small.some_q c h.coordinate)) h.low)
 
 -- ---- files
 pub small_space : (S : Space) (p q : ℕ) → S ≡ record { p = p; q = q } → 1 ≤ p → p ≤ 4 → 1 ≤ q → q ≤ 4 → IsSmall S

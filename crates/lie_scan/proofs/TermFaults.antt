@@ -12,7 +12,7 @@ use Rattle.lie_scan.specs.declared.runs.Class.TheVariants.{Blank, Digit}
 use Rattle.lie_scan.specs.declared.stop.Stop.{Stop}
 use Rattle.lie_scan.specs.Runs.{after_blanks, is_in}
 use Rattle.lie_scan.specs.Stops.{stop, ◌>>=◌}
-use Rattle.lie_scan.specs.Exponents.{HasSmallExponents}
+use Rattle.lie_system.specs.Exponents.{HasSmallExponents}
 use Rattle.lie_scan.specs.Meaning.{product}
 use Rattle.lie_scan.specs.Tokens.{value_of, digits_at, literal_by, literal_at, power_at}
 use Rattle.lie_scan.specs.Turns.{Turn, goes_on, ends, after, turns, all_turns}

@@ -12,7 +12,7 @@ use Rattle.lie_ring.specs.Ratios.{signed}
 use Rattle.lie_scan.specs.declared.runs.Class.TheVariants.{Digit}
 use Rattle.lie_scan.specs.Runs.{after_blanks, is_in}
 use Rattle.lie_scan.specs.Stops.{◌>>=◌}
-use Rattle.lie_scan.specs.Exponents.{HasSmallExponents}
+use Rattle.lie_system.specs.Exponents.{HasSmallExponents}
 use Rattle.lie_scan.specs.Meaning.{product, size_of}
 use Rattle.lie_scan.specs.Tokens.{literal_at}
 use Rattle.lie_scan.specs.Terms.{factor_at, factors_at, first_by, first_at, term_at, with_term, put_by, signed_term_at}

@@ -13,7 +13,7 @@ use Rattle.lie_math.specs.Monomial.{Monomial, monomial_cmp}
 use Rattle.lie_math.specs.Polynomial.{terms, polynomial_of, coefficient}
 use Rattle.lie_math.specs.SortedSum.{value_at, normal, put_new, add_at}
 use Rattle.lie_math.proofs.Limits.{length-absolutes}
-use Rattle.lie_scan.specs.Exponents.{HasSmallExponents}
+use Rattle.lie_system.specs.Exponents.{HasSmallExponents}
 use Rattle.lie_scan.specs.Meaning.{size_of}
 use Rattle.lie_scan.proofs.TermLaws.{AreSmall}
 use Rattle.lie_system.proofs.Entries.{at_entry}

@@ -10,7 +10,6 @@ pub mod LineFaults
 pub mod Variables
 pub mod Turns
 pub mod Terms
-pub mod Exponents
 pub mod Answers
 pub mod Sizes
 pub mod Bad

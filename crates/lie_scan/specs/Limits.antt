@@ -4,7 +4,3 @@ use Rattle.std.specs.Prelude.{ℕ}
 -- the bytes of a file, of a line and of a field
 abbrev pub greatest_text_length : ℕ
 greatest_text_length = 65536
-
--- the exponent of a variable in a term that is written
-abbrev pub greatest_written_exponent : ℕ
-greatest_written_exponent = 32

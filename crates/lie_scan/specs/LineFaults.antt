@@ -9,7 +9,7 @@ use Rattle.lie_scan.specs.declared.runs.Class.TheVariants.{Letter, Digit}
 use Rattle.lie_scan.specs.declared.stop.Stop.{Stop}
 use Rattle.lie_scan.specs.Runs.{after_blanks}
 use Rattle.lie_scan.specs.Stops.{stop}
-use Rattle.lie_scan.specs.Exponents.{HasSmallExponents}
+use Rattle.lie_system.specs.Exponents.{HasSmallExponents}
 use Rattle.lie_scan.specs.Names.{place_of}
 use Rattle.lie_scan.specs.Meaning.{product, size_of, turned_sign}
 use Rattle.lie_scan.specs.TokenGrammar.{AreIn, BeginsOutside, IsNot, IsSign, IsNumber, IsCoordinateAt, IsPower}

@@ -4,7 +4,7 @@ use Rattle.std.specs.declared.option.Option.{Option}
 use Rattle.lie_math.specs.Monomial.{Monomial, unit}
 use Rattle.lie_math.specs.Polynomial.{polynomial_of}
 use Rattle.lie_geometry.specs.Coordinates.{Space, Coordinate, order_of}
-use Rattle.lie_scan.specs.Exponents.{HasSmallExponents}
+use Rattle.lie_system.specs.Exponents.{HasSmallExponents}
 use Rattle.lie_system.specs.Systems.{EquationRead}
 use Rattle.lie_scan.specs.Meaning.{product, size_of, turned_sign}
 use Rattle.lie_ring.specs.Ratios.{signed}

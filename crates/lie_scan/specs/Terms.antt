@@ -33,7 +33,7 @@ use Rattle.lie_scan.specs.Tokens.{literal_at, power_at}
 use Rattle.lie_scan.specs.Turns.{Turn, goes_on, ends, all_turns}
 use Rattle.lie_ring.specs.Ratios.{signed}
 use Rattle.lie_scan.specs.Meaning.{size_of, turned_sign}
-use Rattle.lie_scan.specs.Limits.{greatest_written_exponent}
+use Rattle.lie_system.specs.Limits.{greatest_written_exponent}
 
 -- ---- terms
 -- the product of a monomial and a power, whose exponents are not past the greatest

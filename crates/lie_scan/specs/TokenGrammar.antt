@@ -8,8 +8,8 @@ use Rattle.lie_scan.specs.declared.runs.Class.{Class}
 use Rattle.lie_scan.specs.declared.runs.Class.TheVariants.{Blank, Letter, Digit}
 use Rattle.lie_scan.specs.Runs.{is_in, after_blanks}
 use Rattle.lie_scan.specs.Names.{place_of, letter_counts, variable_at}
-use Rattle.lie_scan.specs.Limits.{greatest_written_exponent}
-use Rattle.lie_system.specs.Limits.{greatest_written_order}
+use Rattle.lie_system.specs.Limits.{greatest_written_exponent}
+use Rattle.lie_jet.specs.Limits.{greatest_written_order}
 
 -- ---- bytes
 abbrev pub AreIn : Class → List ℕ → Type 0

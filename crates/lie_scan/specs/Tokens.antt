@@ -33,8 +33,8 @@ use Rattle.lie_scan.specs.declared.stop.Stop.{Stop}
 use Rattle.lie_scan.specs.Runs.{run, behind, after_blanks, is_in}
 use Rattle.lie_scan.specs.Stops.{stop, ◌>>=◌}
 use Rattle.lie_scan.specs.Names.{place_of, letter_counts, variable_at}
-use Rattle.lie_scan.specs.Limits.{greatest_written_exponent}
-use Rattle.lie_system.specs.Limits.{greatest_written_order}
+use Rattle.lie_system.specs.Limits.{greatest_written_exponent}
+use Rattle.lie_jet.specs.Limits.{greatest_written_order}
 
 -- ---- numbers
 -- a number with one more digit, up to 2^127 - 1

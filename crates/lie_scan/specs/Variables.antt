@@ -5,7 +5,7 @@ use Rattle.lie_geometry.specs.Coordinates.{Space, Coordinate, independent}
 use Rattle.lie_jet.specs.Jets.{coordinate_of, IsJet}
 use Rattle.lie_scan.specs.declared.coordinate.Variable.{Variable}
 use Rattle.lie_scan.specs.declared.coordinate.Variable.TheVariants.{Independent, Dependent}
-use Rattle.lie_system.specs.Limits.{greatest_jet_order}
+use Rattle.lie_jet.specs.Limits.{greatest_jet_order}
 
 abbrev pub seen : Space → Variable → Coordinate
 seen S (Independent i) = independent i

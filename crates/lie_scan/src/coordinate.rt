@@ -5,7 +5,7 @@ ghost use Rattle.lie_scan.specs.Stops.{Gives};
 ghost use Rattle.lie_scan.specs.Names.{one_more, place_of, letter_counts};
 ghost use Rattle.lie_scan.specs.Tokens.{place_of_word, are_names, derivative, plain, coordinate_at};
 ghost use Rattle.lie_scan.specs.Variables.{seen, IsVariable, AreCounts};
-ghost use Rattle.lie_system.specs.Limits.{greatest_variable_count, greatest_written_order};
+ghost use Rattle.lie_jet.specs.Limits.{greatest_variable_count, greatest_written_order};
 
 use crate::fault::BadKind;
 use crate::runs::{Class, split_run};

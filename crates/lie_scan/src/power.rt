@@ -2,7 +2,7 @@
 ghost use Rattle.std.specs.Prelude.{◌≡◌, ◌+◌, ◌≤◌, length, IfOk};
 ghost use Rattle.lie_scan.specs.Stops.{Gives};
 ghost use Rattle.lie_scan.specs.Tokens.{exponent_at, power_at};
-ghost use Rattle.lie_scan.specs.Limits.{greatest_written_exponent};
+ghost use Rattle.lie_system.specs.Limits.{greatest_written_exponent};
 
 use crate::coordinate::{coordinate_at, number_of};
 use crate::fault::BadKind;

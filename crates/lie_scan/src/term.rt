@@ -3,8 +3,8 @@ ghost use Rattle.std.specs.Prelude.{◌≡◌, ◌+◌, ◌≤◌, ◌<◌, ◌^
 ghost use Rattle.lie_scan.specs.Stops.{Reads};
 ghost use Rattle.lie_scan.specs.Terms.{raised, factor_at, factor_turn, factors_at, first_at, term_at};
 ghost use Rattle.lie_scan.specs.Answers.{turn_of};
-ghost use Rattle.lie_scan.specs.Exponents.{HasSmallExponents};
-ghost use Rattle.lie_scan.specs.Limits.{greatest_written_exponent};
+ghost use Rattle.lie_system.specs.Exponents.{HasSmallExponents};
+ghost use Rattle.lie_system.specs.Limits.{greatest_written_exponent};
 
 use crate::fault::BadKind;
 use crate::number::literal_at;

@@ -10,7 +10,7 @@ use Rattle.lie_geometry.specs.SolvedEquations.{is_lead}
 use Rattle.lie_ring.specs.Rankings.{degree_rank}
 use Rattle.lie_jet.specs.Jets.{coordinate_of, IsJet}
 use Rattle.lie_jet.specs.declared.jet.Jet.{Jet}
-use Rattle.lie_system.specs.Limits.{greatest_written_order, greatest_jet_order}
+use Rattle.lie_jet.specs.Limits.{greatest_written_order, greatest_jet_order}
 use Rattle.lie_system.specs.Systems.{EquationRead}
 use Rattle.lie_solved.specs.declared.solved.LeadRule.{LeadRule}
 use Rattle.lie_solved.specs.Leads.{ranked, IsDerivative, HasNoDerivative, IsLead, IsLinearIn}

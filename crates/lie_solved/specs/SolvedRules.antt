@@ -5,7 +5,8 @@ use Rattle.lie_math.specs.Derivation.{is_below}
 use Rattle.lie_math.specs.Variables.{IsIn}
 use Rattle.lie_geometry.specs.Coordinates.{Space, coordinates_up_to}
 use Rattle.lie_geometry.specs.SolvedEquations.{IsSolved, HaveHighLeads}
-use Rattle.lie_system.specs.Limits.{greatest_equation_count, greatest_written_order}
+use Rattle.lie_jet.specs.Limits.{greatest_written_order}
+use Rattle.lie_system.specs.Limits.{greatest_equation_count}
 use Rattle.lie_solved.specs.declared.solved.LeadRule.{LeadRule}
 use Rattle.lie_solved.specs.Equations.{HaveJets}
 use Rattle.lie_solved.specs.SolvedForms.{solved_equations}

@@ -5,7 +5,7 @@ ghost use Rattle.std.specs.Ordering.{is_gt};
 ghost use Rattle.lie_geometry.specs.Coordinates.{number, coordinates_up_to};
 ghost use Rattle.lie_ring.specs.Rankings.{degree_rank};
 ghost use Rattle.lie_jet.specs.Jets.{coordinate_of, IsJet};
-ghost use Rattle.lie_system.specs.Limits.{greatest_written_order, greatest_jet_order};
+ghost use Rattle.lie_jet.specs.Limits.{greatest_written_order, greatest_jet_order};
 ghost use Rattle.lie_system.specs.Equations.{equation_read};
 ghost use Rattle.lie_solved.specs.Leads.{ranked, HasNoDerivative};
 ghost use Rattle.lie_system.specs.Written.{IsLow, IsWritten};

@@ -1,6 +1,5 @@
 // Polynomials that are a number times a variable, and terms without it.
 ghost use Rattle.std.specs.Prelude.{◌≡◌, ◌++◌, ◌∷◌, [], IsTrue, ◌↔◌, IfOk, OnOk, MatchOption};
-ghost use Rattle.lie_math.specs.Limits.{IsWithinLimits};
 ghost use Rattle.lie_math.specs.Monomial.{single};
 ghost use Rattle.lie_math.specs.Polynomial.{WholePolynomial, polynomial_of};
 ghost use Rattle.lie_solved.specs.Leads.{IsLinearIn};
@@ -93,13 +92,6 @@ pub fn rest_of(
     ensures { IfOk result (λ rest. rest ≡ polynomial_of (rest_of number negative poly.now.list)) }
 {
     let rest = terms_without(alloc, terms, number, negative)?;
-    known_within_limits(poly);
+    poly.is_within_limits();
     sum_within_limits(alloc, rest.as_slice())
-}
-
-/// Every polynomial is within the limits: what its length tells.
-fn known_within_limits(poly: &JetPoly)
-    ensures { IsWithinLimits poly.now }
-{
-    let _length = poly.len();
 }

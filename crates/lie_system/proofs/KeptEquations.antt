@@ -1,4 +1,4 @@
--- Equations as they are kept and as lists see them.
+-- Equations and systems as they are kept and as lists see them.
 use Rattle.std.specs.Prelude.{List, [], ◌∷◌, map, option_map, Option, Some, None, IfSome}
 use Rattle.std.proofs.Common.{arith}
 use Rattle.std.specs.List.{AllByRecursion as Every}
@@ -7,8 +7,10 @@ use Rattle.lie_geometry.specs.Coordinates.{Space}
 use Rattle.lie_jet.specs.Jets.{coordinate_of, IsJet}
 use Rattle.lie_jet.specs.declared.jet.Jet.{Jet}
 use Rattle.lie_system.specs.declared.equation.Equation.{Equation}
+use Rattle.lie_system.specs.declared.system.System.{System}
 use Rattle.lie_system.specs.Equations.{equation_read, HasJet, IsLowJet, IsKept, AreKept}
-use Rattle.lie_system.specs.Written.{IsLow, IsWritten, AreWritten}
+use Rattle.lie_system.specs.KeptSystems.{system_read}
+use Rattle.lie_system.specs.Written.{IsLow, IsWritten, AreWritten, IsWrittenSystem}
 
 -- ---- jets
 jet_low : (S : Space) (j : Jet) → IsLowJet S j → IsLow S (coordinate_of S j)
@@ -46,3 +48,14 @@ kept_written S es h = let n = length-map es (equation_read S) in let f = h.few i
 
 pub written_kept : (S : Space) (es : List Equation) → Every (HasJet S) es → AreWritten S (map (equation_read S) es) → AreKept S es
 written_kept S es g h = let n = length-map es (equation_read S) in let f = h.few in record { few = omega arith; equations = equations_kept S es g h.equations }
+
+-- ---- systems
+pub system_written : (s : System) → IsWrittenSystem (system_read s)
+system_written s = record {
+  small = s.small;
+  named = s.named;
+  letters = s.letters;
+  some = let n = length-map s.equations.items (equation_read s.space) in let k = s.some in omega arith;
+  written = kept_written s.space s.equations.items s.kept;
+  sides = s.sides;
+}

@@ -7,7 +7,8 @@ use Rattle.lie_geometry.specs.Coordinates.{Space, coordinates_up_to}
 use Rattle.lie_jet.specs.Jets.{coordinate_of, IsJet}
 use Rattle.lie_jet.specs.declared.jet.Jet.{Jet}
 use Rattle.lie_system.specs.declared.equation.Equation.{Equation}
-use Rattle.lie_system.specs.Limits.{greatest_equation_count, greatest_written_order, greatest_jet_order}
+use Rattle.lie_jet.specs.Limits.{greatest_written_order, greatest_jet_order}
+use Rattle.lie_system.specs.Limits.{greatest_equation_count}
 use Rattle.lie_system.specs.Systems.{EquationRead}
 
 abbrev pub equation_read : Space → Equation → EquationRead

@@ -1,4 +1,5 @@
 pub mod Limits
+pub mod Exponents
 pub mod Equations
 pub mod LeadsAlone
 pub mod Systems

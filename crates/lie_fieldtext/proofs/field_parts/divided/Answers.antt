@@ -23,7 +23,7 @@ sum_within_limits-requires c =
     divided_all c.args.divisor c.loop-term.term-index c.loop-term.list.items c.as_slice-term-items.result.now c.in_ok-terms.terms.items c.args.part.now c.loop-term.invariant (omega (arith, c.loop-term-test.false)) c.as_slice-term-items.ensures.value
     c.in_ok-terms.ensures in
     subst (λ (es : List (Monomial × ℤ)). IsWithinLimits (polynomial_of (absolutes es))) (sym c.as_slice.ensures.value)
-    (divided_within c.args.divisor c.loop-term.list.items c.args.part.now c.requires.some all c.known_within_limits.ensures)
+    (divided_within c.args.divisor c.loop-term.list.items c.args.part.now c.requires.some all c.is_within_limits.ensures)
 
 pub returns : goal.returns
 returns c =

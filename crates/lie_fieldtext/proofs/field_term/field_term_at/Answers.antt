@@ -1,7 +1,7 @@
 use Rattle.std.proofs.Common.{subst, sym, ◌≤◌, ◌/◌}
 use Rattle.lie_math.specs.CommonDivisors.{common_divisor}
 use Rattle.lie_math.proofs.CommonDivisors.{common_divisor_is}
-use Rattle.lie_scan.specs.Exponents.{HasSmallExponents}
+use Rattle.lie_system.specs.Exponents.{HasSmallExponents}
 use Rattle.lie_scan.proofs.ExponentSteps.{unit_small}
 use Rattle.lie_fieldtext.proofs.FieldSteps.{quotient_some}
 use Rattle.lie_fieldtext.proofs.field_term.field_term_at.Goals as goal

@@ -27,4 +27,4 @@ invariant_of-result c =
     let k = parts_are_kept (map (λ l. l.now) c.args.lines.now) _ _ (map (λ l. l.now) c.in_ok-names.rest.now) _ _ _ _ _ c.in-Some.names c.in_ok-independent.independent.items c.in_ok-names.names.items _ c.in_ok-equations.equations.items
     c.as_slice.ensures c.as_slice-2.ensures c.as_slice-3.ensures c.as_slice-4.ensures.value c.as_slice-5.ensures.value ((rw c.in-Some.is at c.in_ok-names-2.ensures).0 ∙ c.as_slice-6.ensures.value)
     c.in_ok-rest.ensures.value c.in_ok-independent.ensures.value c.in_ok-names.ensures.value c.in_ok-equations.ensures.value (c.len.ensures ∙ first) (ap₂ ◌-◌ (c.len-2.ensures ∙ all) (c.len-3.ensures ∙ first)) c.in_ok-equations.ensures.jets in
-    record { small = k.small; named = k.named; kept = k.kept }
+    record { small = k.small; named = k.named; letters = k.letters; some = k.some; kept = k.kept; sides = k.sides }

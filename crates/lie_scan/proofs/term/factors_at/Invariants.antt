@@ -1,6 +1,6 @@
 use Rattle.std.proofs.Common.{◌≡◌, length}
 use Rattle.lie_scan.specs.Terms.{factors_at}
-use Rattle.lie_scan.specs.Exponents.{HasSmallExponents}
+use Rattle.lie_system.specs.Exponents.{HasSmallExponents}
 use Rattle.lie_scan.proofs.term.factors_at.Given as goal
 
 abbrev pub decreases-factors : goal.decreases-factors

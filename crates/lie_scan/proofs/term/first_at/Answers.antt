@@ -1,5 +1,5 @@
 use Rattle.std.proofs.Common.{subst, sym}
-use Rattle.lie_scan.specs.Exponents.{HasSmallExponents}
+use Rattle.lie_system.specs.Exponents.{HasSmallExponents}
 use Rattle.lie_scan.proofs.ExponentSteps.{unit_small}
 use Rattle.lie_scan.proofs.term.first_at.Goals as goal
 

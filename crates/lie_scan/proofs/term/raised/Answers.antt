@@ -5,7 +5,7 @@ use Rattle.lie_ring.specs.declared.failures.PastKind.{PastKind}
 use Rattle.lie_ring.specs.declared.failures.PolyFail.{PolyFail}
 use Rattle.lie_ring.specs.declared.failures.PolyFail.TheVariants.{Past}
 use Rattle.lie_ring.specs.Causes.{IsProductCause}
-use Rattle.lie_scan.specs.Exponents.{HasSmallExponents}
+use Rattle.lie_system.specs.Exponents.{HasSmallExponents}
 use Rattle.lie_scan.proofs.ExponentSteps.{raised_small, product_not_past}
 use Rattle.lie_scan.proofs.term.raised.Goals as goal
 

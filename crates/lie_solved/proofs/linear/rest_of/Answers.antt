@@ -11,7 +11,7 @@ use Rattle.lie_solved.proofs.linear.rest_of.Goals as goal
 pub sum_within_limits-requires : goal.sum_within_limits-requires
 sum_within_limits-requires c =
     subst (λ (es : List (Monomial × ℤ)). IsWithinLimits (polynomial_of (absolutes es))) (sym (c.as_slice.ensures.value ∙ c.in_ok-rest.ensures ∙ ap (rest_of c.args.number c.args.negative) (sym c.requires)))
-    (rest_within c.args.number c.args.negative c.args.poly.now c.known_within_limits.ensures)
+    (rest_within c.args.number c.args.negative c.args.poly.now c.is_within_limits.ensures)
 
 pub returns : goal.returns
 returns c =
