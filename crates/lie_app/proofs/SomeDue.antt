@@ -100,7 +100,7 @@ field_fault_told names text r (texts.in_sum s short allowed other fault) = tt
 module _ (bytes : List ℕ) (refused : (r : Refusal) → IsFileRefusal bytes r → ⊥)
     (solved : (s : SystemRead) (rs : List SolvedEquation) → IsSolvedFile bytes s rs → ⊥) where
   never_short : (s : SystemRead) → IsFile bytes s → length bytes ≤ 65536 → ⊥
-  never_short s file short = elim (systems_are_solved_or_refused degree_rank degree_rank_is_ranking s.space (well_named _ s file.system).small s.equations (file_is_written bytes s file)) [
+  never_short s file short = elim (systems_are_solved_or_refused degree_rank degree_rank_is_ranking s.space (well_named _ s file.system).small s.equations (file_is_written bytes s file).written) [
     | inl p ↦ solved s p.0 (record { file = file; short = short; form = p.1 })
     | inr r ↦ refused (Not r.0 r.1) (unsolved r.0 r.1 (record { system = s; file = file; short = short; refused = r.2 }))
   ]

@@ -11,7 +11,7 @@ ghost use Rattle.lie_app.specs.Work.{IsMade};
 use crate::causes::not_done;
 use crate::outcome::NoText;
 use lie_determining::determining;
-use lie_report::report;
+use lie_report::determining_report;
 use lie_solved::Solved;
 use std::alloc::Global;
 
@@ -28,7 +28,7 @@ pub fn report_of(alloc: Global, solved: &Solved) -> Result<Vec<u8>, NoText>
         → IsDetermineDue bytes due → IsMade due result }
 {
     match determining(alloc, solved) {
-        Ok(system) => Ok(report(alloc, solved.system.names.bytes(), &system)?),
+        Ok(system) => Ok(determining_report(alloc, solved.system.names.bytes(), &system)?),
         Err(fail) => Err(not_done(0, fail)),
     }
 }

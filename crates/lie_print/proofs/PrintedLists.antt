@@ -8,7 +8,7 @@ use Rattle.lie_print.specs.declared.printed_term.Term.{Term}
 use Rattle.lie_print.specs.Printing.{PrintedTerm}
 use Rattle.lie_print.specs.PrintedTerms.{printed}
 
-entries-push : (es : List (Monomial × ℤ)) (m : Monomial) (z : ℤ) → entries (λ z. z) (es ++ (m, z) ∷ []) ≡ entries (λ z. z) es ++ (m, z) ∷ []
+pub entries-push : (es : List (Monomial × ℤ)) (m : Monomial) (z : ℤ) → entries (λ z. z) (es ++ (m, z) ∷ []) ≡ entries (λ z. z) es ++ (m, z) ∷ []
 entries-push [] m z = refl
 entries-push (e ∷ es) m z = ap (λ l. (e.0, e.1) ∷ l) (entries-push es m z)
 

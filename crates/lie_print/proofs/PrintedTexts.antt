@@ -5,11 +5,9 @@ use Rattle.std.proofs.lemmas.Bool.Decides.{nat_tests}
 use Rattle.std.proofs.lemmas.List.{append-nil}
 use Rattle.std.proofs.Math.ListN.{drop_of_length-le}
 use Rattle.std.specs.List.{list_any, flat_map}
-use Rattle.lie_math.specs.Counts.{Derivative, before_counts, trimmed}
+use Rattle.lie_math.specs.Counts.{before_counts, trimmed}
 use Rattle.lie_geometry.specs.Coordinates.{Space}
-use Rattle.lie_jet.specs.declared.derivative.Der.{Der}
-use Rattle.lie_jet.specs.Derivatives.{derivative_of}
-use Rattle.lie_print.specs.Printing.{name_at, repeated, letters_from, subscript, derivative_text, power_text, star, behind, number_factor, last_factor, is_shown, is_further, PrintedTerm, term_text}
+use Rattle.lie_print.specs.Printing.{LastFactor, last_text, name_at, repeated, letters_from, subscript, derivative_text, power_text, star, behind, number_factor, last_factor, is_shown, is_further, PrintedTerm, term_text}
 
 push-repeated : (n : ℕ) (piece : List ℕ) → repeated n piece ++ piece ≡ piece ++ repeated n piece
 unfolding repeated
@@ -71,9 +69,9 @@ derived_trimmed (c ∷ J) = derived-before c (trimmed J) ∙ ap (λ b. nat_lt 0 
 pub subscript_trimmed : (names : List ℕ) (J : List ℕ) → subscript names (trimmed J) ≡ subscript names J
 subscript_trimmed names J = ap₂ (λ (b : Bool) (l : List ℕ). if b then 95 ∷ l else []) (derived_trimmed J) (letters_from-trimmed names 0 J)
 
-pub derivative_text-parts : (names : List ℕ) (d : Der) (start one two last : List ℕ) → one ≡ start ++ 102 ∷ [] → two ≡ one ++ decimal d.unknown → last ≡ two ++ subscript names d.counts
-    → last ≡ start ++ derivative_text names (derivative_of d)
-derivative_text-parts names d start one two last a b c = rw (subscript_trimmed names d.counts, c, b, a) (simp append_assoc)
+pub derivative_text-parts : (names : List ℕ) (n : ℕ) (J start one two last : List ℕ) → one ≡ start ++ 102 ∷ [] → two ≡ one ++ decimal n → last ≡ two ++ subscript names J
+    → last ≡ start ++ derivative_text names (record { unknown = n; counts = trimmed J })
+derivative_text-parts names n J start one two last a b c = rw (subscript_trimmed names J, c, b, a) (simp append_assoc)
 
 -- ---- factors
 starred-append : (xs ys : List (List ℕ)) → flat_map (λ g. 42 ∷ g) (xs ++ ys) ≡ flat_map (λ g. 42 ∷ g) xs ++ flat_map (λ g. 42 ∷ g) ys
@@ -90,19 +88,19 @@ behind-append b x xs ys =
     ∙ sym (append_assoc (star b ++ x) (flat_map (λ g. 42 ∷ g) xs) (behind true ys))
 
 -- the number, the powers and the derivative, one behind the other
-parts : Space → List ℕ → ℕ → List (ℕ × ℕ) → Option Derivative → List ℕ
+parts : Space → List ℕ → ℕ → List (ℕ × ℕ) → Option LastFactor → List ℕ
 parts S names n ps d =
     (if is_shown n ps d then decimal n else []) ++ (behind (is_shown n ps d) (map (power_text S names) ps) ++ behind (is_further (is_shown n ps d) ps) (last_factor names d))
 
-abbrev whole : Space → List ℕ → ℕ → List (ℕ × ℕ) → Option Derivative → List ℕ
+abbrev whole : Space → List ℕ → ℕ → List (ℕ × ℕ) → Option LastFactor → List ℕ
 whole S names n ps d = behind false (number_factor n (map (power_text S names) ps ++ last_factor names d) ++ (map (power_text S names) ps ++ last_factor names d))
 
-parts-whole : (S : Space) (names : List ℕ) (n : ℕ) (ps : List (ℕ × ℕ)) (d : Option Derivative) → parts S names n ps d ≡ whole S names n ps d
+parts-whole : (S : Space) (names : List ℕ) (n : ℕ) (ps : List (ℕ × ℕ)) (d : Option LastFactor) → parts S names n ps d ≡ whole S names n ps d
 unfolding parts
 parts-whole S names n [] None = refl
 parts-whole S names n [] (Some d) = go (n == 1)
   where
-    go : (b : Bool) → (if not b then decimal n else []) ++ ([] ++ behind (not b) (derivative_text names d ∷ [])) ≡ behind false ((if b then [] else decimal n ∷ []) ++ derivative_text names d ∷ [])
+    go : (b : Bool) → (if not b then decimal n else []) ++ ([] ++ behind (not b) (last_text names d ∷ [])) ≡ behind false ((if b then [] else decimal n ∷ []) ++ last_text names d ∷ [])
     go true = refl
     go false = refl
 parts-whole S names n (p ∷ ps) d = go (n == 1)

@@ -33,6 +33,7 @@ use Rattle.std.specs.List.{list_any, flat_map}
 use Rattle.lie_math.specs.Counts.{Derivative}
 use Rattle.lie_math.specs.Monomial.{Monomial}
 use Rattle.lie_geometry.specs.Coordinates.{Space, Coordinate, independent, jet, coordinate, coordinates_up_to}
+use Rattle.lie_jet.specs.Limits.{greatest_jet_order}
 
 -- ---- names
 -- the i-th name, which is one letter; nothing where there is none
@@ -64,7 +65,7 @@ coordinate_text S names (jet a J) = name_at names (S.p + a) ++ subscript names J
 
 -- the coordinate with a number; nothing past those of order 12, which is twice the order of a file
 unfoldable pub variable_text : Space → List ℕ → ℕ → List ℕ
-variable_text S names w = cond (ltb w (coordinates_up_to S 12)) (coordinate_text S names (coordinate S w)) []
+variable_text S names w = cond (ltb w (coordinates_up_to S greatest_jet_order)) (coordinate_text S names (coordinate S w)) []
 
 -- a derivative of an unknown: `f`, its number and its letters
 abbrev pub derivative_text : List ℕ → Derivative → List ℕ
@@ -80,14 +81,23 @@ abbrev pub number_factor : ℕ → List (List ℕ) → List (List ℕ)
 number_factor size [] = decimal size ∷ []
 number_factor size (f ∷ fs) = if size == 1 then [] else decimal size ∷ []
 
--- a derivative of an unknown as a factor, where there is one
-abbrev pub last_factor : List ℕ → Option Derivative → List (List ℕ)
-last_factor names None = []
-last_factor names (Some d) = derivative_text names d ∷ []
+-- what stands behind the powers of a term: a derivative of an unknown, or the base vector at a variable
+pub data LastFactor : Type 0 where
+  of_unknown : Derivative → LastFactor
+  base_vector : ℕ → LastFactor
 
--- a term of a sum: a number, a monomial, and a derivative of an unknown or none
+abbrev pub last_text : List ℕ → LastFactor → List ℕ
+last_text names (of_unknown d) = derivative_text names d
+last_text names (base_vector i) = codes "d_" ++ name_at names i
+
+-- the last factor, where there is one
+abbrev pub last_factor : List ℕ → Option LastFactor → List (List ℕ)
+last_factor names None = []
+last_factor names (Some f) = last_text names f ∷ []
+
+-- a term of a sum: a number, a monomial, and a last factor or none
 abbrev pub PrintedTerm : Type 0
-PrintedTerm = ℤ × Monomial × Option Derivative
+PrintedTerm = ℤ × Monomial × Option LastFactor
 
 abbrev pub factors : Space → List ℕ → PrintedTerm → List (List ℕ)
 factors S names t = map (power_text S names) t.1.list ++ last_factor names t.2
@@ -105,11 +115,11 @@ behind further (f ∷ fs) = star further ++ f ++ flat_map (λ g. 42 ∷ g) fs
 abbrev pub term_text : Space → List ℕ → PrintedTerm → List ℕ
 term_text S names t = behind false (number_factor (unsigned_abs t.0) (factors S names t) ++ factors S names t)
 
--- whether the number of a term is shown, by its size, its powers and its derivative of an unknown
-abbrev pub is_shown : ℕ → List (ℕ × ℕ) → Option Derivative → Bool
+-- whether the number of a term is shown, by its size, its powers and its last factor
+abbrev pub is_shown : ℕ → List (ℕ × ℕ) → Option LastFactor → Bool
 is_shown size [] None = true
-is_shown size [] (Some d) = not (size == 1)
-is_shown size (p ∷ ps) d = not (size == 1)
+is_shown size [] (Some f) = not (size == 1)
+is_shown size (p ∷ ps) f = not (size == 1)
 
 -- whether a factor stands before what comes behind powers
 abbrev pub is_further : Bool → List (ℕ × ℕ) → Bool

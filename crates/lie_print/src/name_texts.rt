@@ -1,12 +1,14 @@
 // Names of variables, coordinates and derivatives of unknowns as text.
 ghost use Rattle.std.specs.Prelude.{◌≡◌, ◌++◌, ◌∷◌, [], OnOk, take, decimal, nat_lt};
 ghost use Rattle.std.specs.List.{list_any, flat_map};
-ghost use Rattle.lie_jet.specs.Derivatives.{derivative_of};
+ghost use Rattle.lie_jet.specs.Limits.{greatest_jet_order};
+ghost use Rattle.lie_math.specs.Counts.{trimmed};
 ghost use Rattle.lie_jet.specs.Jets.{coordinate_of, IsJet};
-ghost use Rattle.lie_print.specs.Printing.{name_at, names_line, repeated, letters_from, subscript, coordinate_text, variable_text, derivative_text};
+ghost use Rattle.lie_print.specs.Printing.{name_at, names_line, repeated, letters_from, subscript};
+ghost use Rattle.lie_print.specs.Printing.{coordinate_text, variable_text, derivative_text};
 
 use crate::printer::Printer;
-use lie_jet::{Der, Jet, jet_of};
+use lie_jet::{Jet, jet_of};
 use std::alloc::{AllocError, Global};
 
 /// Appends a text.
@@ -103,7 +105,7 @@ impl Printer<'_> {
 
     /// Appends a jet.
     pub fn push_jet(&self, text: &mut Vec<u8>, jet: &Jet) -> Result<(), AllocError>
-        requires { IsJet self.now.space 12 jet.now }
+        requires { IsJet self.now.space greatest_jet_order jet.now }
         ensures { OnOk result (text.new.items
             ≡ text.old.items ++ coordinate_text self.now.space self.now.names.now (coordinate_of self.now.space jet.now)) }
     {
@@ -125,13 +127,19 @@ impl Printer<'_> {
         }
     }
 
-    /// Appends a derivative of an unknown: `f`, its number and its letters.
-    pub fn push_derivative(&self, text: &mut Vec<u8>, derivative: &Der) -> Result<(), AllocError>
-        ensures { OnOk result (text.new.items ≡ text.old.items ++ derivative_text self.now.names.now (derivative_of derivative.now)) }
+    /// Appends a derivative of the unknown with a number, as often by each variable as the counts say: `f`, the number and the letters.
+    pub fn push_derivative(
+        &self,
+        text: &mut Vec<u8>,
+        unknown: usize,
+        counts: &[u8; 8],
+    ) -> Result<(), AllocError>
+        ensures { OnOk result (text.new.items ≡ text.old.items
+            ++ derivative_text self.now.names.now (record { unknown = unknown; counts = trimmed counts.now })) }
     {
         push_text(text, b"f")?;
-        push_number(text, self.alloc, u128::from(derivative.unknown))?;
-        push_subscript(text, self.names, &derivative.counts)?;
+        push_number(text, self.alloc, unknown as u128)?;
+        push_subscript(text, self.names, counts)?;
         Ok(())
     }
 }

@@ -3,16 +3,25 @@ ghost use Rattle.std.specs.Prelude.{◌≡◌, IfOk, map};
 ghost use Rattle.lie_print.specs.PrintedTerms.{printed, polynomial_terms};
 
 use lie_bytes::NoMemory;
-use lie_jet::{Der, JetPoly};
+use lie_jet::JetPoly;
 use lie_ring::{Mono, Polynomial, Whole};
 use std::alloc::Global;
 
-/// A number times a monomial, and times a derivative of an unknown where there is one.
+/// What stands behind the powers of a term.
+#[derive(Clone, Copy, PartialEq, Eq, Debug)]
+pub enum LastFactor {
+    /// A derivative of the unknown with this number, as often by each variable as these counts say.
+    Derivative(usize, [u8; 8]),
+    /// The base vector at the variable with this number.
+    BaseVector(usize),
+}
+
+/// A number times a monomial, and times a last factor where there is one.
 #[derive(Drop)]
 pub struct Term {
     pub number: Whole,
     pub monomial: Mono,
-    pub derivative: Option<Der>,
+    pub last: Option<LastFactor>,
 }
 
 /// The terms of a polynomial, in print order.
@@ -24,7 +33,7 @@ pub fn polynomial_terms(alloc: Global, polynomial: &JetPoly) -> Result<Vec<Term>
         terms.push(Term {
             number,
             monomial,
-            derivative: None,
+            last: None,
         })?;
     }
     Ok(terms)

@@ -1,15 +1,13 @@
 // Terms and sums as text.
 ghost use Rattle.std.specs.Prelude.{◌≡◌, ◌++◌, ◌∷◌, [], OnOk, map, true, option_map, decimal, if◌then◌else◌};
 ghost use Rattle.std.specs.List.{flat_map};
-ghost use Rattle.lie_jet.specs.Derivatives.{derivative_of};
-ghost use Rattle.lie_print.specs.PrintedTerms.{printed};
-ghost use Rattle.lie_print.specs.Printing.{power_text, star, behind, last_factor, is_shown, is_further};
+ghost use Rattle.lie_print.specs.PrintedTerms.{last_of, printed};
+ghost use Rattle.lie_print.specs.Printing.{power_text, star, behind, last_text, last_factor, is_shown, is_further};
 ghost use Rattle.lie_print.specs.Printing.{term_text, sign_text, signed_text, sum_text};
 
 use crate::name_texts::{push_number, push_text};
-use crate::printed_term::Term;
+use crate::printed_term::{LastFactor, Term};
 use crate::printer::Printer;
-use lie_jet::Der;
 use lie_ring::Ring;
 use std::alloc::{AllocError, Global};
 
@@ -24,10 +22,10 @@ fn push_star(text: &mut Vec<u8>, further: bool) -> Result<(), AllocError>
 }
 
 // Whether the number of a term is shown: not where it is 1 before other factors.
-fn is_shown(size: u128, powers: &[(u32, u32)], derivative: &Option<Der>) -> bool
-    ensures { result ≡ is_shown size powers.now (option_map derivative_of derivative.now) }
+fn is_shown(size: u128, powers: &[(u32, u32)], last: &Option<LastFactor>) -> bool
+    ensures { result ≡ is_shown size powers.now (option_map last_of last.now) }
 {
-    match (powers, derivative) {
+    match (powers, last) {
         ([], None) => true,
         _ => size != 1,
     }
@@ -53,8 +51,8 @@ fn push_shown(text: &mut Vec<u8>, alloc: Global, size: u128, shown: bool) -> Res
     Ok(())
 }
 
-// Appends the sign before a term: a bare minus before the first, and one with blanks before a further term.
-fn push_sign(text: &mut Vec<u8>, further: bool, negative: bool) -> Result<(), AllocError>
+/// Appends the sign before a term: a bare minus before the first, and one with blanks before a further term.
+pub fn push_sign(text: &mut Vec<u8>, further: bool, negative: bool) -> Result<(), AllocError>
     ensures { OnOk result (text.new.items ≡ text.old.items ++ sign_text further negative) }
 {
     match (further, negative) {
@@ -114,35 +112,48 @@ impl Printer<'_> {
         }
     }
 
-    // Appends a derivative of an unknown, where there is one, behind other factors or as the first.
+    // Appends a last factor.
+    fn push_last_factor(&self, text: &mut Vec<u8>, last: &LastFactor) -> Result<(), AllocError>
+        ensures { OnOk result (text.new.items ≡ text.old.items ++ last_text self.now.names.now (last_of last.now)) }
+    {
+        match last {
+            LastFactor::Derivative(unknown, counts) => self.push_derivative(text, *unknown, counts),
+            LastFactor::BaseVector(variable) => {
+                push_text(text, b"d_")?;
+                self.push_name(text, *variable)
+            }
+        }
+    }
+
+    // Appends the last factor, where there is one, behind other factors or as the first.
     fn push_last(
         &self,
         text: &mut Vec<u8>,
         further: bool,
-        derivative: &Option<Der>,
+        last: &Option<LastFactor>,
     ) -> Result<(), AllocError>
         ensures { OnOk result (text.new.items
-            ≡ text.old.items ++ behind further (last_factor self.now.names.now (option_map derivative_of derivative.now))) }
+            ≡ text.old.items ++ behind further (last_factor self.now.names.now (option_map last_of last.now))) }
     {
-        match derivative {
-            Some(derivative) => {
+        match last {
+            Some(last) => {
                 push_star(text, further)?;
-                self.push_derivative(text, derivative)
+                self.push_last_factor(text, last)
             }
             None => Ok(()),
         }
     }
 
-    // Appends a term without its sign: the number, unless it is 1 before other factors, the powers and the derivative.
+    // Appends a term without its sign: the number, unless it is 1 before other factors, the powers and the last factor.
     fn push_term(&self, text: &mut Vec<u8>, term: &Term) -> Result<(), AllocError>
         ensures { OnOk result (text.new.items ≡ text.old.items ++ term_text self.now.space self.now.names.now (printed term.now)) }
     {
         let size = term.number.size();
         let powers = term.monomial.pairs();
-        let shown = is_shown(size, powers, &term.derivative);
+        let shown = is_shown(size, powers, &term.last);
         push_shown(text, self.alloc, size, shown)?;
         self.push_powers(text, shown, powers)?;
-        self.push_last(text, is_further(shown, powers), &term.derivative)?;
+        self.push_last(text, is_further(shown, powers), &term.last)?;
         Ok(())
     }
 

@@ -1,3 +1,5 @@
 -- The lemmas that the answers cite.
-pub mod Texts
+pub mod Lines
 pub mod Lists
+pub mod ShownNumbers
+pub mod PairSteps

@@ -1,47 +1,22 @@
--- The text of a report of a linear system.
-use Rattle.std.specs.Prelude.{ℕ, ◌+◌, List, [], ◌∷◌, ◌++◌, map, take, drop, length, codes, decimal}
-use Rattle.std.specs.List.{flat_map}
-use Rattle.lie_math.specs.LinearForm.{LinearForm}
-use Rattle.lie_math.specs.LinearSystem.{Unknown, LinearSystem}
+-- The text of a report.
+use Rattle.std.specs.Prelude.{ℕ, List, [], ◌∷◌, ◌++◌, codes, decimal}
+use Rattle.lie_math.specs.LinearSystem.{LinearSystem}
 use Rattle.lie_geometry.specs.Coordinates.{Space}
-use Rattle.lie_print.specs.Printing.{name_at, names_line, sum_text}
-use Rattle.lie_report.specs.Terms.{form_terms}
+use Rattle.lie_report.specs.Reports.{Report, determining, symmetries, degree}
+use Rattle.lie_report.specs.SystemLines.{lines_text, head_lines, system_lines}
+use Rattle.lie_report.specs.BasisLines.{generator_lines, basis_lines}
 
--- texts with commas between them
-abbrev pub listed : List (List ℕ) → List ℕ
-listed [] = []
-listed (f ∷ fs) = f ++ flat_map (λ g. 44 ∷ g) fs
+-- the lines of a report but the last
+abbrev pub report_body : Report → List (List ℕ)
+report_body (determining N T) = head_lines (codes "lie determining 1") N ++ system_lines N T
+report_body (symmetries N T found) =
+    head_lines (codes "lie symmetries 1, polynomial components only") N ++ system_lines N T ++ basis_lines N found
+report_body (degree N most fields) = head_lines (codes "lie degree 1") N ++ (codes "degree " ++ decimal most) ∷ generator_lines N fields
 
--- an unknown and its variables
-abbrev pub free_line : List ℕ → Unknown → List ℕ
-free_line names f = codes "free f" ++ decimal f.number ++ codes "(" ++ listed (map (name_at names) f.variables) ++ codes ")\n"
+-- the lines of a report, each with its end
+unfoldable pub report_text : Report → List ℕ
+report_text R = lines_text (report_body R ++ codes "end" ∷ [])
 
--- the component of a field at the i-th variable
-abbrev pub component_line : Space → List ℕ → ℕ → LinearForm → List ℕ
-component_line S names i E = codes "general " ++ name_at names i ++ codes " = " ++ sum_text S names (form_terms E) ++ codes "\n"
-
--- the components from the i-th variable on
-unfoldable pub general_lines : Space → List ℕ → ℕ → List LinearForm → List ℕ
-general_lines S names i [] = []
-general_lines S names i (E ∷ Es) = component_line S names i E ++ general_lines S names (i + 1) Es
-
-abbrev pub equation_line : Space → List ℕ → LinearForm → List ℕ
-equation_line S names E = sum_text S names (form_terms E) ++ codes " = 0\n"
-
--- the first line, and the names
-abbrev pub head : Space → List ℕ → List ℕ
-head S names = codes "lie determining 1\n" ++ names_line (codes "vars") (take S.p names) ++ names_line (codes "deps") (drop S.p names)
-
--- how many equations remain, and their lines
-abbrev pub remaining : Space → List ℕ → List LinearForm → List ℕ
-remaining S names Es = codes "remaining " ++ decimal (length Es) ++ codes "\n" ++ flat_map (equation_line S names) Es
-
--- the names, the unknowns, the general form and the equations that remain
-abbrev pub report_of : Space → List ℕ → List Unknown → List LinearForm → List LinearForm → List ℕ
-report_of S names unknowns general equations =
-    head S names ++ flat_map (free_line names) unknowns
-    ++ general_lines S names 0 general ++ remaining S names equations ++ codes "end\n"
-
--- the report of a system
+-- the text of the report of the determining equations of a system
 abbrev pub report : Space → List ℕ → LinearSystem → List ℕ
-report S names T = report_of S names T.unknowns T.general T.equations
+report S names T = report_text (determining (record { space = S; names = names }) T)

@@ -1,12 +1,13 @@
-// A report and the lines of checks, with texts from a model that was written apart.
-use crate::report_text::report_of;
-use crate::{no_line, yes_line};
-use lie_jet::{Der, JetPoly, Space};
-use lie_lin::{LinEq, Unknown, of_triples};
-use lie_print::printer::Printer;
-use lie_ring::{Mono, Polynomial, Whole};
+// Reports and the lines of checks, with texts from a model that was written apart.
+use crate::{Found, Report, Table, determining_report, no_line, write_report, yes_line};
+use lie_bytes::Text;
+use lie_jet::{Der, Field, JetPoly, Space};
+use lie_lin::{LinEq, LinSystem, Unknown, of_triples};
+use lie_ring::{Mono, Polynomial, Ratio, Whole};
 use std::alloc::Global;
 use std::test::Fail;
+
+const SPACE: Space = Space { p: 1, q: 1 };
 
 // A derivative of an unknown, by the variables 0 and 1.
 fn der(unknown: u32, by_first: u8, by_second: u8) -> Der {
@@ -26,71 +27,153 @@ fn form(alloc: Global, terms: &[(i128, &[(u32, u32)], Der)]) -> Option<LinEq> {
     of_triples(alloc, &list).ok()
 }
 
-// A form of one or two derivatives with numbers alone.
-fn plain(alloc: Global, first: (i128, Der), second: (i128, Der)) -> Option<LinEq> {
+// The determining equation of u_x = u, for the unknowns with the numbers 3 and 7.
+fn equation(alloc: Global) -> Option<LinEq> {
     let one: &[(u32, u32)] = &[];
-    form(alloc, &[(first.0, one, first.1), (second.0, one, second.1)])
-}
-
-// The determining equations of y_xx = 0.
-fn line_equations(alloc: Global) -> Option<Vec<LinEq>> {
-    let none = (0, der(1, 0, 0));
-    let mut equations = Vec::new(alloc);
-    equations.push(plain(alloc, (1, der(1, 0, 2)), none)?).ok()?;
-    equations.push(plain(alloc, (1, der(2, 2, 0)), none)?).ok()?;
-    equations
-        .push(plain(alloc, (-2, der(1, 1, 1)), (1, der(2, 0, 2)))?)
-        .ok()?;
-    equations
-        .push(plain(alloc, (-1, der(1, 2, 0)), (2, der(2, 1, 1)))?)
-        .ok()?;
-    Some(equations)
-}
-
-const LINE_REPORT: &[u8] =
-    b"lie determining 1\nvars x\ndeps y\nfree f1(x,y)\nfree f2(y)\nfree f12()\n\
-    general x = f1\ngeneral y = -7*f2 + x^2*y*f1 - 3*y*f1\nremaining 4\n\
-    f1_yy = 0\nf2_xx = 0\nf2_yy - 2*f1_xy = 0\n2*f2_xy - f1_xx = 0\nend\n";
-
-#[test]
-fn report_has_its_lines(rt: HostRuntime) -> Result<(), Fail> {
-    let alloc = rt.alloc();
-    let unknowns = [
-        Unknown { number: 1, vars: 3 },
-        Unknown { number: 2, vars: 2 },
-        Unknown {
-            number: 12,
-            vars: 0,
-        },
-    ];
-    let first: &[(u32, u32)] = &[(0, 2), (1, 1)];
-    let second: &[(u32, u32)] = &[(1, 1)];
-    let x = plain(alloc, (1, der(1, 0, 0)), (0, der(1, 0, 0))).ok_or("x")?;
-    let one: &[(u32, u32)] = &[];
-    let y = form(
+    form(
         alloc,
         &[
-            (1, first, der(1, 0, 0)),
-            (-3, second, der(1, 0, 0)),
-            (-7, one, der(2, 0, 0)),
+            (1, one, der(7, 1, 0)),
+            (1, &[(1, 1)], der(7, 0, 1)),
+            (-1, &[(1, 1)], der(3, 1, 0)),
+            (-1, &[(1, 2)], der(3, 0, 1)),
+            (-1, one, der(7, 0, 0)),
         ],
     )
-    .ok_or("y")?;
-    let mut general = Vec::new(alloc);
-    general.push(x).map_err(|_| "memory")?;
-    general.push(y).map_err(|_| "memory")?;
-    let equations = line_equations(alloc).ok_or("equations")?;
-    let space = Space { p: 1, q: 1 };
-    let printer = Printer {
+}
+
+// A component with powers in its coefficients.
+fn component(alloc: Global) -> Option<LinEq> {
+    let one: &[(u32, u32)] = &[];
+    form(
         alloc,
-        space,
-        names: b"xy",
+        &[
+            (1, &[(0, 2), (1, 1)], der(3, 0, 0)),
+            (-3, &[(1, 1)], der(3, 0, 0)),
+            (-7, one, der(7, 0, 0)),
+        ],
+    )
+}
+
+// The system of this equation, with two unknowns of fewer variables.
+fn system(alloc: Global) -> Option<LinSystem> {
+    let one: &[(u32, u32)] = &[];
+    let mut unknowns = Vec::new(alloc);
+    unknowns.push(Unknown { number: 3, vars: 3 }).ok()?;
+    unknowns.push(Unknown { number: 7, vars: 3 }).ok()?;
+    unknowns.push(Unknown { number: 9, vars: 2 }).ok()?;
+    unknowns
+        .push(Unknown {
+            number: 12,
+            vars: 0,
+        })
+        .ok()?;
+    let mut equations = Vec::new(alloc);
+    equations.push(equation(alloc)?).ok()?;
+    let mut general = Vec::new(alloc);
+    general.push(form(alloc, &[(1, one, der(3, 0, 0))])?).ok()?;
+    general.push(component(alloc)?).ok()?;
+    LinSystem::of_parts(alloc, SPACE, unknowns, equations, general, 13).ok()?
+}
+
+// The field of the variables x and u with these components, each one term: a number and powers.
+fn field(alloc: Global, components: [(i128, &[(u32, u32)]); 2]) -> Option<Field> {
+    let mut parts = Vec::new(alloc);
+    for (number, powers) in components {
+        let mut terms = Vec::new(alloc);
+        terms
+            .push((Mono::new(alloc, powers).ok()??, Whole::new(number)?))
+            .ok()?;
+        parts.push(JetPoly::of_terms(alloc, &terms).ok()?).ok()?;
+    }
+    Some(Field::new(1, parts))
+}
+
+// Three fields.
+fn fields(alloc: Global) -> Option<Vec<Field>> {
+    let one: &[(u32, u32)] = &[];
+    let mut fields = Vec::new(alloc);
+    fields.push(field(alloc, [(1, one), (0, one)])?).ok()?;
+    fields
+        .push(field(alloc, [(-1, &[(0, 2)]), (3, &[(0, 1), (1, 1)])])?)
+        .ok()?;
+    fields.push(field(alloc, [(0, one), (0, one)])?).ok()?;
+    Some(fields)
+}
+
+// Combinations of three fields.
+fn table(alloc: Global) -> Option<Table> {
+    let mut entries = Vec::new(alloc);
+    for numbers in [
+        [(0, 1), (2, 1), (1, 1)],
+        [(-1, 1), (0, 1), (-3, 2)],
+        [(0, 1), (0, 1), (0, 1)],
+    ] {
+        let mut entry = Vec::new(alloc);
+        for (num, den) in numbers {
+            entry.push(Ratio { num, den }).ok()?;
+        }
+        entries.push(entry).ok()?;
+    }
+    Some(Table { entries })
+}
+
+// The text of a report of symmetries, with a basis or none.
+fn symmetries(alloc: Global, found: Option<Found>) -> Option<Vec<u8>> {
+    let names = Text::of(alloc, b"xu").ok()??;
+    let system = system(alloc)?;
+    write_report(
+        alloc,
+        &Report::Symmetries {
+            names,
+            system,
+            found,
+        },
+    )
+    .ok()
+}
+
+const DETERMINING: &[u8] =
+    b"lie determining 1\nvars x\ndeps u\nfree f1(x,u)\nfree f2(x,u)\nfree f3(u)\nfree f4()\n\
+    general x = f1\ngeneral u = -7*f2 + x^2*u*f1 - 3*u*f1\nremaining 1\n\
+    f2_x + u*f2_u - u*f1_x - u^2*f1_u - f2 = 0\nend\n";
+
+const WITHOUT_BASIS: &[u8] = b"lie symmetries 1, polynomial components only\nvars x\ndeps u\n\
+    free f1(x,u)\nfree f2(x,u)\nfree f3(u)\nfree f4()\n\
+    general x = f1\ngeneral u = -7*f2 + x^2*u*f1 - 3*u*f1\nremaining 1\n\
+    f2_x + u*f2_u - u*f1_x - u^2*f1_u - f2 = 0\ngenerators -\ncommutators -\nend\n";
+
+const WITH_BASIS: &[u8] = b"lie symmetries 1, polynomial components only\nvars x\ndeps u\n\
+    free f1(x,u)\nfree f2(x,u)\nfree f3(u)\nfree f4()\n\
+    general x = f1\ngeneral u = -7*f2 + x^2*u*f1 - 3*u*f1\nremaining 1\n\
+    f2_x + u*f2_u - u*f1_x - u^2*f1_u - f2 = 0\ngenerators 3\nv1 = d_x\nv2 = -x^2*d_x + 3*x*u*d_u\n\
+    v3 = 0\ncommutators 3\n[v1,v2] = 2*v2 + v3\n[v1,v3] = -v1 - 3/2*v3\n[v2,v3] = 0\nend\n";
+
+const DEGREE: &[u8] = b"lie degree 1\nvars x\ndeps u\ndegree 2\ngenerators 3\nv1 = d_x\n\
+    v2 = -x^2*d_x + 3*x*u*d_u\nv3 = 0\nend\n";
+
+#[test]
+fn reports_have_their_lines(rt: HostRuntime) -> Result<(), Fail> {
+    let alloc = rt.alloc();
+    let opening = system(alloc).ok_or("system")?;
+    let text = determining_report(alloc, b"xu", &opening).map_err(|_| "memory")?;
+    assert_eq!(rt; text.as_slice(), DETERMINING);
+    let text = symmetries(alloc, None).ok_or("symmetries")?;
+    assert_eq!(rt; text.as_slice(), WITHOUT_BASIS);
+    let found = Found {
+        fields: fields(alloc).ok_or("fields")?,
+        table: table(alloc).ok_or("table")?,
     };
-    let text = report_of(&printer, &unknowns, &general, &equations).map_err(|_| "memory")?;
-    assert_eq!(rt; text.as_slice(), LINE_REPORT);
-    let none = report_of(&printer, &[], &[], &[]).map_err(|_| "memory")?;
-    let want: &[u8] = b"lie determining 1\nvars x\ndeps y\nremaining 0\nend\n";
-    assert_eq!(rt; none.as_slice(), want);
+    let text = symmetries(alloc, Some(found)).ok_or("symmetries")?;
+    assert_eq!(rt; text.as_slice(), WITH_BASIS);
+    let degree = Report::Degree {
+        names: Text::of(alloc, b"xu")?.ok_or("names")?,
+        space: SPACE,
+        most: 2,
+        fields: fields(alloc).ok_or("fields")?,
+    };
+    let text = write_report(alloc, &degree).map_err(|_| "memory")?;
+    assert_eq!(rt; text.as_slice(), DEGREE);
     Ok(())
 }
 

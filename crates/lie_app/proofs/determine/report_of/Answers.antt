@@ -9,15 +9,15 @@ use Rattle.lie_app.specs.Work.{IsAnswered}
 use Rattle.lie_app.proofs.DueReports.{opening_refusal, opening_done, opening_failed}
 use Rattle.lie_app.proofs.determine.report_of.Goals as goal
 
-pub returns-in_ok-report-in-Ok-clause-text : goal.returns-in_ok-report-in-Ok-clause-text
-returns-in_ok-report-in-Ok-clause-text c = λ bytes h. record {
+pub returns-in_ok-determining_report-in-Ok-clause-text : goal.returns-in_ok-determining_report-in-Ok-clause-text
+returns-in_ok-determining_report-in-Ok-clause-text c = λ bytes h. record {
   system = system_read c.args.solved.now.system;
   rules = solved_equations c.args.solved.now.system.space c.args.solved.now.rules.items;
   opening = c.in-Ok.system.system;
   solved = h;
   made = c.in-Ok.ensures.opening;
   within = c.in-Ok.ensures.fits;
-  printed = c.in_ok-report-in-Ok.ensures ∙ ap₂ (λ S names. report S names c.in-Ok.system.system) c.in-Ok.ensures.space c.bytes.ensures;
+  printed = c.in_ok-determining_report-in-Ok.ensures ∙ ap₂ (λ S names. report S names c.in-Ok.system.system) c.in-Ok.ensures.space c.bytes.ensures;
   meaning = c.in-Ok.ensures.meaning;
 }
 
@@ -25,8 +25,8 @@ pub returns-in-Err-clause-cause : goal.returns-in-Err-clause-cause
 returns-in-Err-clause-cause c = λ bytes h. subst (IsRefusalOr (IsReportRefusal bytes)) (sym c.not_done.ensures)
     (opening_refusal c.in-Err.fail (system_read c.args.solved.now.system) (solved_equations c.args.solved.now.system.space c.args.solved.now.rules.items) c.in-Err.ensures.past bytes h)
 
-pub returns-in_ok-report-in-Ok-clause-due : goal.returns-in_ok-report-in-Ok-clause-due
-returns-in_ok-report-in-Ok-clause-due c = λ bytes due h d.
+pub returns-in_ok-determining_report-in-Ok-clause-due : goal.returns-in_ok-determining_report-in-Ok-clause-due
+returns-in_ok-determining_report-in-Ok-clause-due c = λ bytes due h d.
     opening_done bytes (system_read c.args.solved.now.system) (solved_equations c.args.solved.now.system.space c.args.solved.now.rules.items) due h c.in-Ok.ensures.fits d
 
 pub returns-in-Err-clause-due : goal.returns-in-Err-clause-due
