@@ -1,0 +1,12 @@
+mod FiniteSystems
+mod FiniteLists
+mod Halving
+mod ColumnLists
+mod FormColumns
+mod GeneralColumns
+mod BasisOutcomes
+mod UnknownRows
+mod RowFields
+mod SystemBasis
+mod ClosedForms
+mod ClosedTerms

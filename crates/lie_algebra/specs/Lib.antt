@@ -1,0 +1,4 @@
+pub mod GeneralColumns
+pub mod ColumnLists
+pub mod BasisWork
+pub mod Laws
