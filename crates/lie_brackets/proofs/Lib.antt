@@ -1,0 +1,13 @@
+mod ClosedBases
+mod UniqueTables
+mod WorkDecisions
+mod AdditiveMaps
+mod DerivedTerms
+mod FieldParts
+mod BracketParts
+mod PivotPlaces
+mod TermSearches
+mod PivotColumns
+mod PairLists
+mod PivotCoordinates
+mod TableEntries
