@@ -13,3 +13,4 @@ mod EquationSteps
 mod ValidForms
 pub mod ValidOpening
 mod OpeningLimits
+mod OpeningLaws

@@ -23,7 +23,7 @@ use Rattle.lie_systems.specs.Bulk.{system_triple_count}
 use Rattle.lie_systems.specs.Works.{Triples}
 use Rattle.lie_ring.specs.declared.failures.PastKind.TheVariants.{Terms}
 use Rattle.lie_determining.specs.Equations.{AreEquationsOf, IsNormalisedPart, part_of_form, IsSystemOf, IsLargeSystem}
-use Rattle.lie_determining.proofs.SortedLists.{all_of_map, any_of_map, every_of, same_elements}
+use Rattle.lie_determining.proofs.SortedLists.{all_of_map, all_in_map, any_of_map, any_in_map, every_of, same_elements}
 
 -- ---- the conditions are the reduced applications
 abbrev pub condition : Space → List SolvedEquation → SolvedEquation → LinearForm
@@ -38,6 +38,14 @@ module _ (S : Space) (rs : List SolvedEquation) where
     all = all_of_map (condition S rs) (λ E. (μ : Monomial) → (part_of_form S E μ ≡ no_form) ⊎ Contains es (primitive (part_of_form S E μ))) rs h.all;
     alone = every_of (IsNormalisedPart S (conditions S rs)) (IsNormalisedEquation S rs) es
         (λ e a. any_of_map (condition S rs) (λ E. (μ : Monomial) × (¬ (part_of_form S E μ ≡ no_form)) × (e ≡ primitive (part_of_form S E μ))) rs a) h.alone;
+    ordered = h.ordered;
+  }
+
+  pub equations_of_opening : (es : List LinearForm) → AreOpeningEquations S rs es → AreEquationsOf S (conditions S rs) es
+  equations_of_opening es h = record {
+    all = all_in_map (condition S rs) (λ E. (μ : Monomial) → (part_of_form S E μ ≡ no_form) ⊎ Contains es (primitive (part_of_form S E μ))) rs h.all;
+    alone = every_of (IsNormalisedEquation S rs) (IsNormalisedPart S (conditions S rs)) es
+        (λ e a. any_in_map (condition S rs) (λ E. (μ : Monomial) × (¬ (part_of_form S E μ ≡ no_form)) × (e ≡ primitive (part_of_form S E μ))) rs a) h.alone;
     ordered = h.ordered;
   }
 

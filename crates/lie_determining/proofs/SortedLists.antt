@@ -27,9 +27,28 @@ any_of_map {X = X} f P xs a = go xs a.0 a.1 a.2 a.3 a.4
         let r = go xs k y (omega arith) e p in
         (suc r.0, r.1, (let lt : r.0 < length xs = r.2 in omega arith), r.3, r.4)
 
+pub all_in_map : {X Y : Type 0} (f : X → Y) (P : Y → Type 0) (xs : List X) → All (λ x. P (f x)) xs → All P (map f xs)
+all_in_map f P [] h k d g = absurd (omega arith)
+all_in_map f P (x ∷ xs) h zero d g = h zero x (omega arith)
+all_in_map {X = X} f P (x ∷ xs) h (suc k) d g = all_in_map f P xs (λ j e m. h (suc j) e (omega arith)) k d (omega arith)
+
+pub any_in_map : {X Y : Type 0} (f : X → Y) (P : Y → Type 0) (xs : List X) → Any (λ x. P (f x)) xs → Any P (map f xs)
+any_in_map {X = X} f P xs a = go xs a.0 a.1 a.2 a.3 a.4
+  where
+    go : (xs : List X) (k : ℕ) (x : X) → k < length xs → slice_index_or xs k x ≡ x → P (f x) → Any P (map f xs)
+    go [] k x g e p = absurd (omega arith)
+    go (y ∷ xs) zero x g e p = (0, f y, omega arith, refl, subst (λ z. P (f z)) (sym e) p)
+    go (y ∷ xs) (suc k) x g e p =
+        let r = go xs k x (omega arith) e p in
+        (suc r.0, r.1, (let lt : r.0 < length (map f xs) = r.2 in omega arith), r.3, r.4)
+
 pub every_of : {X : Type 0} (P Q : X → Type 0) (xs : List X) → ((x : X) → P x → Q x) → Every P xs → Every Q xs
 every_of P Q [] f h = tt
 every_of P Q (x ∷ xs) f h = (f x h.0, every_of P Q xs f h.1)
+
+pub every_in_map : {X Y : Type 0} (P : Y → Type 0) (f : X → Y) (xs : List X) → ((x : X) → P (f x)) → Every P (map f xs)
+every_in_map P f [] h = tt
+every_in_map P f (x ∷ xs) h = (h x, every_in_map P f xs h)
 
 -- ---- elements
 pub contains_nothing : {X : Type 0} (x : X) → Contains [] x → ⊥

@@ -32,7 +32,7 @@ module _ (m : ℕ) where
       run_unique (next_keeps m S T v s).0 r (subst (λ x. Run x k V) same q) (omega arith)
 
   -- behind a system to which no rule applies there is none
-  run_ends : {S T U : LinearSystem} {n k : ℕ} → IsValid m S → Run S n T → IsStuck T → Run S k U → k ≤ n
+  pub run_ends : {S T U : LinearSystem} {n k : ℕ} → IsValid m S → Run S n T → IsStuck T → Run S k U → k ≤ n
   run_ends v start e start = omega arith
   run_ends v start e (onward s r) = absurd (e s.rule s.place s.applies)
   run_ends v (onward s r) e start = omega arith

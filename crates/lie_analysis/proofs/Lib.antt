@@ -1,0 +1,6 @@
+mod AlgebraSteps
+mod AnalysisSteps
+mod WorkSteps
+mod Dues
+mod OneAnalysis
+mod ToldSymmetries
