@@ -1,5 +1,6 @@
 // The rules for f = 0, for the lowest derivative, for a derivative that is 0, and for a variable by which an equation splits.
-use crate::test_systems::{Rule, leaves, of_texts};
+use crate::test_systems::{Rule, leaves};
+use lie_linear_texts::of_texts;
 use std::test::Fail;
 
 #[test]

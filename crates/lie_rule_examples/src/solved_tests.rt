@@ -1,6 +1,7 @@
 // The rules for equations solved for an unknown or a derivative, on systems over two to four variables: what they leave, where they do
 // not apply, and limits that are passed.
-use crate::test_systems::{Rule, is_past, leaves, of_texts};
+use crate::test_systems::{Rule, is_past, leaves};
+use lie_linear_texts::of_texts;
 use lie_ring::PastKind;
 use std::test::Fail;
 
