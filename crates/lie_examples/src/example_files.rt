@@ -1,4 +1,4 @@
-// The files of the directory `examples`.
+// The files of the directory `examples`, each with the first line of its comment alone.
 
 pub const GROWTH: &[u8] =
     b"# Exponential growth, the equation of the first run.\nlie 1\nvars x\ndeps u\neq u_x = u\n\
