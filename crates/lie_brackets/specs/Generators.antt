@@ -67,6 +67,7 @@ pairs_before zero xs = []
 pairs_before (suc i) xs = pairs_before i xs ++ pairs_from i (length xs) xs
 
 -- the entries of the pairs, whose brackets are all within the limits
-pub record AreEntriesWithin (S : Space) (Vs : List VectorField) (pairs : List (VectorField × VectorField)) (es : List (List Ratio)) : Type 0 where
+pub record AreEntriesWithin (S : Space) (Vs : List VectorField) (pairs : List (VectorField × VectorField))
+    (es : List (List Ratio)) : Type 0 where
   pub entries : AreEntries S Vs pairs es
   pub within : Every (λ (pair : VectorField × VectorField). IsWorkWithin (BracketMakes S pair.0 pair.1)) pairs

@@ -52,4 +52,5 @@ lists_of es = map (λ (e : Vec Ratio Global). e.items) es
 -- ---- the work
 -- the actions are the brackets of the pairs
 pub data TableMakes (S : Space) (Vs : List VectorField) : Made → Type 0 where
-  bracket : (pair : VectorField × VectorField) → Contains (pairs_of Vs) pair → (b : Made) → BracketMakes S pair.0 pair.1 b → TableMakes S Vs b
+  bracket : (pair : VectorField × VectorField) → Contains (pairs_of Vs) pair
+      → (b : Made) → BracketMakes S pair.0 pair.1 b → TableMakes S Vs b

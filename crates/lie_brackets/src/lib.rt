@@ -11,3 +11,6 @@ mod tables;
 
 pub use brackets::bracket;
 pub use tables::table;
+
+#[cfg(test)]
+mod tests;

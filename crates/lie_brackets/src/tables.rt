@@ -76,7 +76,13 @@ fn push_entries(
     ensures past { IfErr result (λ fail. IsWorkCause fail (TableMakes space (fields_of generators.now))) }
 {
     for second in first + 1..generators.len() {
-        let ratios = entry(alloc, space, generators, &generators[first], &generators[second])?;
+        let ratios = entry(
+            alloc,
+            space,
+            generators,
+            &generators[first],
+            &generators[second],
+        )?;
         entries.push(ratios)?;
     }
     Ok(())
