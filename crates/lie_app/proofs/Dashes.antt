@@ -1,5 +1,5 @@
 -- Words with a dash in front: which of them clap refuses, and which it takes as they are.
-use Rattle.std.specs.Prelude.{ℕ, Bool, true, false, ◌≡◌, ◌==◌, List, [], ◌∷◌, slice_get, codes, if◌then◌else◌, Some, None, option_and_then}
+use Rattle.std.specs.Prelude.{ℕ, Bool, true, false, ◌≡◌, ◌==◌, ◌&&◌, List, [], ◌∷◌, slice_get, codes, if◌then◌else◌, Some, None, option_and_then}
 use Rattle.std.proofs.Common.{refl, sym, ap, ◌∙◌, subst}
 use Rattle.std.specs.Option.{option_map_or}
 use Rattle.std.specs.Char.{encode_utf8}
@@ -7,11 +7,31 @@ use Rattle.std.specs.Str.{IsUtf8, bytes_eq, chars, encode_utf8_all}
 use Rattle.std.specs.declared.option.Option.{Option}
 use Rattle.std.proofs.lemmas.Bool.{eqb-true}
 use Rattle.std.proofs.lemmas.Str.{encodes-chars}
-use Rattle.clap.specs.Lexer.{long_of, long_of_rest, short_of, strip_byte}
-use Rattle.clap.specs.Walk.{Held, Rule, Text, arg_by_long, arg_by_short}
+use Rattle.clap.specs.Lexer.{long_of, long_of_rest, name_and_value, short_of, strip_byte}
+use Rattle.clap.specs.Walk.{Held, Rule, Text, arg_by_short}
 use Rattle.clap.specs.Faults.{bundle_fault, flag_word_fault, flags_fault}
 use Rattle.clap.specs.declared.error.kind.ErrorKind.TheVariants.{UnknownArgument}
-use Rattle.lie_app.specs.Words.{is_option}
+use Rattle.lie_app.specs.Words.{is_dashed, option_in}
+
+-- a word other than the two dashes names an option to clap as it does here
+pub long_is : (word : Text) → bytes_eq word (codes "--") ≡ false → long_of word ≡ option_in word
+long_is [] other = refl
+long_is (c ∷ []) other = go (c == 45)
+  where
+    go : (t : Bool) → option_and_then long_of_rest (option_and_then (strip_byte 45) (if t then Some [] else None)) ≡ None
+    go true = refl
+    go false = refl
+long_is (c ∷ d ∷ rest) other = first (c == 45) other
+  where
+    second : (t : Bool) (rest : Text) → (t && bytes_eq rest []) ≡ false → option_and_then long_of_rest (if t then Some rest else None) ≡ (if t then Some (name_and_value rest) else None)
+    second true [] e = absurd (cc)
+    second true (x ∷ xs) e = refl
+    second false rest e = refl
+
+    first : (t : Bool) → (t && ((d == 45) && bytes_eq rest [])) ≡ false
+        → option_and_then long_of_rest (option_and_then (strip_byte 45) (if t then Some (d ∷ rest) else None)) ≡ (if t && (d == 45) then Some (name_and_value rest) else None)
+    first true e = second (d == 45) rest e
+    first false e = refl
 
 -- behind the dash of a text stands a character
 has_char : (d : ℕ) (ds : Text) → IsUtf8 (45 ∷ d ∷ ds) → (x : ℕ) × (slice_get (chars (d ∷ ds)) 0 ≡ Some x)
@@ -22,13 +42,10 @@ has_char d ds text = go (chars (d ∷ ds)) (encodes-chars (45 ∷ d ∷ ds) text
     go [] e = absurd (cc)
     go (x ∷ cs) e = (x, refl)
 
--- where no argument is a flag, an option is refused
-module _ (rules : List Rule) (again : Bool) (long : (name : Text) → arg_by_long rules name ≡ None) (short : (x : ℕ) → arg_by_short rules x ≡ None) (h : Held) (whole : h.skip ≡ 0) where
+-- where no argument has a short name, a word with a dash that names no option is refused
+module _ (rules : List Rule) (again : Bool) (short : (x : ℕ) → arg_by_short rules x ≡ None) (h : Held) (whole : h.skip ≡ 0) where
   abbrev refuses : Text → Type 0
   refuses word = flag_word_fault rules again (long_of word) word h ≡ UnknownArgument ∷ []
-
-  refuses_long : (x : ℕ) (xs : Text) → refuses (45 ∷ 45 ∷ x ∷ xs)
-  refuses_long x xs = rw long refl
 
   refuses_short : (d : ℕ) (ds : Text) → IsUtf8 (45 ∷ d ∷ ds) → (d == 45) ≡ false → refuses (45 ∷ d ∷ ds)
   unfolding flags_fault
@@ -41,26 +58,21 @@ module _ (rules : List Rule) (again : Bool) (long : (name : Text) → arg_by_lon
       ap (λ (o : Option (Text × Option Text)). flag_word_fault rules again o word h) no_long
       ∙ (ap (λ (o : Option Text). option_map_or (λ f. bundle_fault rules again f h) o []) flags ∙ refused)
 
-  refuses_dash : (d : ℕ) (ds : Text) → IsUtf8 (45 ∷ d ∷ ds) → bytes_eq (45 ∷ d ∷ ds) (codes "--") ≡ false → refuses (45 ∷ d ∷ ds)
-  refuses_dash d ds text other = go (d == 45) refl
+  refuses_dash : (d : ℕ) (ds : Text) → IsUtf8 (45 ∷ d ∷ ds) → option_in (45 ∷ d ∷ ds) ≡ None → refuses (45 ∷ d ∷ ds)
+  refuses_dash d ds text none = go (d == 45) refl none
     where
-      second : (ds : Text) → bytes_eq (45 ∷ 45 ∷ ds) (codes "--") ≡ false → refuses (45 ∷ 45 ∷ ds)
-      second [] e = absurd (cc)
-      second (x ∷ xs) e = refuses_long x xs
+      go : (t : Bool) → (d == 45) ≡ t → (if t then Some (name_and_value ds) else None) ≡ None → refuses (45 ∷ d ∷ ds)
+      go true e is = absurd (cc)
+      go false e is = refuses_short d ds text e
 
-      go : (t : Bool) → (d == 45) ≡ t → refuses (45 ∷ d ∷ ds)
-      go true e = let is : d ≡ 45 = eqb-true d 45 e in rw is (second ds (rw is at other))
-      go false e = refuses_short d ds text e
-
-  pub refuses_option : (word : Text) → IsUtf8 word → bytes_eq word (codes "--") ≡ false → is_option word ≡ true → refuses word
-  refuses_option [] text other option = absurd (cc)
-  refuses_option (c ∷ []) text other option = absurd (cc)
-  refuses_option (c ∷ d ∷ ds) text other option =
-      let is : c ≡ 45 = eqb-true c 45 option in
-      subst (λ b. IsUtf8 (b ∷ d ∷ ds) → bytes_eq (b ∷ d ∷ ds) (codes "--") ≡ false → refuses (b ∷ d ∷ ds)) (sym is) (refuses_dash d ds) text other
+  pub refuses_dashed : (word : Text) → IsUtf8 word → is_dashed word ≡ true → option_in word ≡ None → refuses word
+  refuses_dashed [] text dashed none = absurd (cc)
+  refuses_dashed (c ∷ []) text dashed none = absurd (cc)
+  refuses_dashed (c ∷ d ∷ ds) text dashed none =
+      let is : c ≡ 45 = eqb-true c 45 dashed in subst (λ b. IsUtf8 (b ∷ d ∷ ds) → option_in (b ∷ d ∷ ds) ≡ None → refuses (b ∷ d ∷ ds)) (sym is) (refuses_dash d ds) text none
 
 -- any other word is no flag
-pub is_no_flag : (word : Text) → is_option word ≡ false → (long_of word ≡ None) × (short_of word ≡ None)
+pub is_no_flag : (word : Text) → is_dashed word ≡ false → (long_of word ≡ None) × (short_of word ≡ None)
 is_no_flag [] plain = (refl, refl)
 is_no_flag (c ∷ []) plain = go (c == 45) refl
   where

@@ -1,10 +1,16 @@
 -- The lemmas that the answers cite.
+pub mod Rules
+pub mod Rows
 pub mod Dashes
 pub mod Walks
+pub mod Turns
+pub mod Readings
 pub mod Commands
+pub mod Numbers
 pub mod SolvedFiles
 pub mod FileRefusals
 pub mod DueReports
 pub mod DueChecks
+pub mod DueSymmetries
 pub mod Outcomes
 pub mod SomeDue

@@ -15,7 +15,8 @@ use Rattle.lie_app.specs.declared.outcome.Refusal.{Refusal}
 use Rattle.lie_app.specs.declared.outcome.Refusal.TheVariants.{Bad}
 use Rattle.lie_app.specs.declared.outcome.Failure.TheVariants.{ReadFault, WriteFault}
 use Rattle.lie_app.specs.declared.status.Source.TheVariants.{File}
-use Rattle.lie_app.specs.declared.words.FileCommand.TheVariants.{Determine, Check}
+use Rattle.lie_app.specs.declared.words.FileCommand.TheVariants.{Determine, Check, Analyse}
+use Rattle.lie_app.specs.Analyse as analyses
 use Rattle.lie_app.specs.Causes.{put_outcome}
 use Rattle.lie_app.specs.Checking as checks
 use Rattle.lie_app.specs.Determine as determines
@@ -30,15 +31,18 @@ use Rattle.lie_app.specs.Words.{AnyCommand, AnyFileCommand}
 use Rattle.lie_app.specs.Work.{IsWorkRefusal, IsWorkDue, IsAnswer, IsAnswered, IsEnded, IsWorkOutcome, done, refused, no_memory, write_fault}
 use Rattle.lie_app.proofs.DueChecks.{file_of_check}
 use Rattle.lie_app.proofs.DueReports.{file_of_report}
+use Rattle.lie_app.proofs.DueSymmetries.{file_of_symmetries}
 
 -- ---- refusals of the file
 pub file_refused : (c : AnyFileCommand) (bytes : List ℕ) (refusal : Refusal) → IsFileRefusal bytes refusal → IsWorkRefusal c bytes refusal
 file_refused Determine bytes refusal h = determines.no_file refusal h
 file_refused (Check field) bytes refusal h = checks.no_file refusal h
+file_refused (Analyse budget) bytes refusal h = analyses.no_file refusal h
 
 pub file_answered : (c : AnyFileCommand) (bytes : List ℕ) (found : Refusal) (due : Outcome) → IsFileRefusal bytes found → IsWorkDue c bytes due → IsAnswer due (Refused found)
 file_answered Determine bytes found due h d = file_of_report bytes found due h d
 file_answered (Check field) bytes found due h d = file_of_check bytes field found due h d
+file_answered (Analyse budget) bytes found due h d = file_of_symmetries bytes budget found due h d
 
 pub file_is_work : (c : AnyFileCommand) (bytes : List ℕ) (none : NoText) → IsRefusalOr (IsFileRefusal bytes) none → IsRefusalOr (IsWorkRefusal c bytes) none
 file_is_work c bytes (texts.Refused refusal) h = file_refused c bytes refusal h

@@ -27,7 +27,7 @@ use Rattle.lie_app.specs.SolvedFile.{IsSolvedFile, IsUnsolvedFile, IsFileRefusal
 use Rattle.lie_app.specs.Work.{IsAnswer}
 
 -- the variables of a file are of both kinds
-file_has_space : (bytes : List ℕ) (s : SystemRead) → IsFile bytes s → IsSpace s.space
+pub file_has_space : (bytes : List ℕ) (s : SystemRead) → IsFile bytes s → IsSpace s.space
 file_has_space bytes s h =
     let f = h.system in
     let p : (s.space).p ≡ length f.independent = ap (λ (t : Space). t.p) f.space in

@@ -35,9 +35,12 @@ use Rattle.lie_app.specs.declared.status.Source.TheVariants.{File, Field}
 use Rattle.lie_app.specs.declared.outcome.Outcome.{Outcome}
 use Rattle.lie_app.specs.declared.outcome.Outcome.TheVariants.{Done, Refused}
 use Rattle.lie_app.specs.declared.outcome.Refusal.{Refusal}
-use Rattle.lie_app.specs.declared.outcome.Refusal.TheVariants.{Bad, Not, Past, Missing}
+use Rattle.lie_app.specs.declared.outcome.Refusal.TheVariants.{Bad, Not, Past, Spent, Missing}
 use Rattle.lie_app.specs.declared.words.Command.TheVariants.{OnFile}
-use Rattle.lie_app.specs.declared.words.FileCommand.TheVariants.{Determine, Check}
+use Rattle.lie_app.specs.declared.words.FileCommand.TheVariants.{Determine, Check, Analyse}
+use Rattle.lie_analysis.specs.Laws.{SomeAnswerIsDue}
+use Rattle.lie_app.specs.Analyse as analyses
+use Rattle.lie_app.specs.Analyse.{IsAnalyseDue}
 use Rattle.lie_app.specs.Checking as checks
 use Rattle.lie_app.specs.Checking.{IsField, IsCheckDue}
 use Rattle.lie_app.specs.Determine as reports
@@ -170,18 +173,27 @@ module _ (actions : ActionsAreNotWithinAndPast) (bytes text : List ℕ) (none : 
 some_line : ActionsAreNotWithinAndPast → (bytes text : List ℕ) → ((due : Outcome) → ¬ (IsCheckDue bytes text due)) → ⊥
 some_line actions bytes text none = some_file bytes (λ r h. none (Refused r) (checks.due_file r h)) (λ s rs is. never_solved actions bytes text none s rs is)
 
--- ---- commands
-some_work : ActionsAreNotWithinAndPast → OpeningIsNotWithinAndPast → (c : AnyFileCommand) (bytes : List ℕ) → ((due : Outcome) → ¬ (IsWorkDue c bytes due)) → ⊥
-some_work actions opening Determine bytes none = some_report opening bytes none
-some_work actions opening (Check text) bytes none = some_line actions bytes text none
+-- ---- analyse
+some_symmetries : SomeAnswerIsDue → (bytes : List ℕ) (budget : ℕ) → ((due : Outcome) → ¬ (IsAnalyseDue bytes budget due)) → ⊥
+some_symmetries answer bytes budget none = some_file bytes (λ r h. none (Refused r) (analyses.due_file r h)) (λ s rs is.
+    answer s.space rs budget
+    (λ due. none Done (analyses.due_report (record { system = s; rules = rs; solved = is; due = due })))
+    (λ spent. none (Refused (Spent budget)) (analyses.due_spent (record { system = s; rules = rs; solved = is; spent = spent })))
+    (λ step first. none (Refused (Past step Terms)) (analyses.due_past step Terms (record { system = s; rules = rs; solved = is; first = first }))))
 
-some_on_file : ActionsAreNotWithinAndPast → OpeningIsNotWithinAndPast → (files : List (List ℕ × List ℕ)) (path : List ℕ) (c : AnyFileCommand) → ((due : Outcome) → ¬ (IsDueOnFile (outside (Some files)) path c due)) → ⊥
-some_on_file actions opening files path c none = go (file_at files path) refl
+-- ---- commands
+some_work : ActionsAreNotWithinAndPast → OpeningIsNotWithinAndPast → SomeAnswerIsDue → (c : AnyFileCommand) (bytes : List ℕ) → ((due : Outcome) → ¬ (IsWorkDue c bytes due)) → ⊥
+some_work actions opening answer Determine bytes none = some_report opening bytes none
+some_work actions opening answer (Check text) bytes none = some_line actions bytes text none
+some_work actions opening answer (Analyse budget) bytes none = some_symmetries answer bytes budget none
+
+some_on_file : ActionsAreNotWithinAndPast → OpeningIsNotWithinAndPast → SomeAnswerIsDue → (files : List (List ℕ × List ℕ)) (path : List ℕ) (c : AnyFileCommand) → ((due : Outcome) → ¬ (IsDueOnFile (outside (Some files)) path c due)) → ⊥
+some_on_file actions opening answer files path c none = go (file_at files path) refl
   where
     go : (o : Option (List ℕ)) → file_at files path ≡ o → ⊥
     go None e = none (Refused Missing) (due_missing files refl e)
-    go (Some bytes) e = some_work actions opening c bytes (λ due h. none due (due_work files bytes due refl e h))
+    go (Some bytes) e = some_work actions opening answer c bytes (λ due h. none due (due_work files bytes due refl e h))
 
-pub some_outcome_is_due : ActionsAreNotWithinAndPast → OpeningIsNotWithinAndPast
+pub some_outcome_is_due : ActionsAreNotWithinAndPast → OpeningIsNotWithinAndPast → SomeAnswerIsDue
     → (files : List (List ℕ × List ℕ)) (c : AnyCommand) → ¬ ((due : Outcome) → ¬ (IsDue (outside (Some files)) c due))
-some_outcome_is_due actions opening files (OnFile path c) none = some_on_file actions opening files path c none
+some_outcome_is_due actions opening answer files (OnFile path c) none = some_on_file actions opening answer files path c none

@@ -6,6 +6,8 @@ use Rattle.lie_scan.specs.declared.fault.ReadFail.{ReadFail}
 use Rattle.lie_scan.specs.declared.fault.ReadFail.TheVariants as reads
 use Rattle.lie_solved.specs.declared.solved.SolveFormFail.{SolveFormFail}
 use Rattle.lie_solved.specs.declared.solved.SolveFormFail.TheVariants as solves
+use Rattle.lie_analysis.specs.declared.analysis.Unfinished.{Unfinished}
+use Rattle.lie_analysis.specs.declared.analysis.Unfinished.TheVariants as unfinished
 use Rattle.lie_outer.specs.declared.sink.SinkFail.TheVariants as sinks
 use Rattle.lie_outer.specs.declared.sink.SinkFail.{SinkFail}
 use Rattle.std.specs.declared.result.Result.{Result}
@@ -15,7 +17,7 @@ use Rattle.lie_app.specs.declared.outcome.NoText.TheVariants.{Refused, NoMemory}
 use Rattle.lie_app.specs.declared.outcome.Outcome.{Outcome}
 use Rattle.lie_app.specs.declared.outcome.Outcome.TheVariants as outcomes
 use Rattle.lie_app.specs.declared.outcome.Failure.TheVariants as failures
-use Rattle.lie_app.specs.declared.outcome.Refusal.TheVariants.{Bad, Not, Past}
+use Rattle.lie_app.specs.declared.outcome.Refusal.TheVariants.{Bad, Not, Past, Spent}
 use Rattle.lie_app.specs.declared.status.Source.{Source}
 
 -- a text that is not read
@@ -32,6 +34,12 @@ not_solved solves.NoMemory = NoMemory
 abbrev pub not_done : ℕ → PolyFail → NoText
 not_done step (poly.Past what) = Refused (Past step what)
 not_done step poly.NoMemory = NoMemory
+
+-- an analysis without an end
+abbrev pub not_analysed : ℕ → Unfinished → NoText
+not_analysed budget (unfinished.Past step what) = Refused (Past step what)
+not_analysed budget unfinished.Spent = Refused (Spent budget)
+not_analysed budget unfinished.NoMemory = NoMemory
 
 -- a put of the whole output
 abbrev pub put_outcome : {T : Type 0} → Result T SinkFail → Outcome

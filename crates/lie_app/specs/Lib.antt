@@ -8,6 +8,7 @@ pub mod Outside
 pub mod SolvedFile
 pub mod Determine
 pub mod Checking
+pub mod Analyse
 pub mod Work
 pub mod OnFile
 pub mod Run

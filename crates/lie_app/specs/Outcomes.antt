@@ -3,7 +3,7 @@ use Rattle.lie_app.specs.declared.status.Status.{Status}
 use Rattle.lie_app.specs.declared.status.Status.TheVariants as statuses
 use Rattle.lie_app.specs.declared.outcome.Outcome.{Outcome}
 use Rattle.lie_app.specs.declared.outcome.Outcome.TheVariants.{Done, Refused, Failed}
-use Rattle.lie_app.specs.declared.outcome.Refusal.TheVariants.{Usage, Missing, Bad, Not, Past}
+use Rattle.lie_app.specs.declared.outcome.Refusal.TheVariants.{Usage, Missing, Bad, Not, Past, Spent}
 use Rattle.lie_app.specs.declared.outcome.Failure.TheVariants.{NoMemory, ReadFault, WriteFault}
 use Rattle.lie_app.specs.declared.outcome.Refusal.{Refusal}
 use Rattle.lie_app.specs.declared.outcome.NoText.{NoText}
@@ -17,6 +17,7 @@ outcome_of statuses.Missing = Refused Missing
 outcome_of (statuses.Bad source bad) = Refused (Bad source bad)
 outcome_of (statuses.Not kind k) = Refused (Not kind k)
 outcome_of (statuses.Past step what) = Refused (Past step what)
+outcome_of (statuses.Spent steps) = Refused (Spent steps)
 outcome_of statuses.NoMemory = Failed NoMemory
 outcome_of statuses.ReadFault = Failed ReadFault
 outcome_of statuses.WriteFault = Failed WriteFault

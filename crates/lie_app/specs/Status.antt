@@ -12,7 +12,7 @@ use Rattle.lie_solved.specs.declared.solved.NotKind.TheVariants.{NoDerivative, L
 use Rattle.lie_app.specs.declared.status.Source.{Source}
 use Rattle.lie_app.specs.declared.status.Source.TheVariants.{File, Field}
 use Rattle.lie_app.specs.declared.status.Status.{Status}
-use Rattle.lie_app.specs.declared.status.Status.TheVariants.{Done, Usage, Bad, Not, Past, NoMemory, ReadFault, WriteFault, Missing}
+use Rattle.lie_app.specs.declared.status.Status.TheVariants.{Done, Usage, Bad, Not, Past, Spent, NoMemory, ReadFault, WriteFault, Missing}
 
 abbrev pub code_of : Status → ℕ
 code_of Done = 0
@@ -20,6 +20,7 @@ code_of Usage = 2
 code_of (Bad source bad) = 3
 code_of (Not kind k) = 4
 code_of (Past step what) = 5
+code_of (Spent steps) = 6
 code_of NoMemory = 7
 code_of ReadFault = 8
 code_of WriteFault = 9
@@ -72,6 +73,9 @@ not_line kind k = codes "lie: not solved: " ++ not_text kind ++ codes " in equat
 abbrev pub past_line : PastKind → ℕ → List ℕ
 past_line kind step = codes "lie: past " ++ past_text kind ++ codes " at step " ++ decimal step ++ codes "\n"
 
+abbrev pub spent_line : ℕ → List ℕ
+spent_line steps = codes "lie: spent " ++ decimal steps ++ codes " steps\n"
+
 -- the line on the error stream
 abbrev pub line_of : Status → List ℕ
 line_of Done = []
@@ -79,6 +83,7 @@ line_of Usage = codes "lie: usage\n"
 line_of (Bad source bad) = fault_line source bad
 line_of (Not kind k) = not_line kind k
 line_of (Past step what) = past_line what step
+line_of (Spent steps) = spent_line steps
 line_of NoMemory = codes "lie: no memory\n"
 line_of ReadFault = codes "lie: read fault\n"
 line_of WriteFault = codes "lie: write fault\n"

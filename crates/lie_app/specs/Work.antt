@@ -9,7 +9,8 @@ use Rattle.lie_app.specs.declared.outcome.Refusal.{Refusal}
 use Rattle.lie_app.specs.declared.outcome.Refusal.TheVariants.{Past}
 use Rattle.lie_app.specs.declared.outcome.Failure.TheVariants.{NoMemory, ReadFault, WriteFault}
 use Rattle.lie_app.specs.declared.outcome.NoText.{NoText}
-use Rattle.lie_app.specs.declared.words.FileCommand.TheVariants.{Determine, Check}
+use Rattle.lie_app.specs.declared.words.FileCommand.TheVariants.{Determine, Check, Analyse}
+use Rattle.lie_app.specs.Analyse.{IsSymmetriesReport, IsAnalyseRefusal, IsAnalyseDue}
 use Rattle.lie_app.specs.Checking.{IsCheck, IsCheckRefusal, IsCheckDue}
 use Rattle.lie_app.specs.Determine.{IsReport, IsReportRefusal, IsDetermineDue}
 use Rattle.lie_app.specs.Outcomes.{untold}
@@ -19,16 +20,19 @@ use Rattle.lie_app.specs.Words.{AnyFileCommand}
 abbrev pub IsTextOf : AnyFileCommand → List ℕ → List ℕ → Type 0
 IsTextOf Determine bytes text = IsReport bytes text
 IsTextOf (Check field) bytes text = IsCheck bytes field text
+IsTextOf (Analyse budget) bytes text = IsSymmetriesReport bytes budget text
 
 -- why it makes no text of the bytes
 abbrev pub IsWorkRefusal : AnyFileCommand → List ℕ → Refusal → Type 0
 IsWorkRefusal Determine bytes refusal = IsReportRefusal bytes refusal
 IsWorkRefusal (Check field) bytes refusal = IsCheckRefusal bytes field refusal
+IsWorkRefusal (Analyse budget) bytes refusal = IsAnalyseRefusal bytes budget refusal
 
 -- which outcome is due for the bytes
 abbrev pub IsWorkDue : AnyFileCommand → List ℕ → Outcome → Type 0
 IsWorkDue Determine bytes due = IsDetermineDue bytes due
 IsWorkDue (Check field) bytes due = IsCheckDue bytes field due
+IsWorkDue (Analyse budget) bytes due = IsAnalyseDue bytes budget due
 
 -- ---- the answer where an outcome is due
 -- it is that outcome; of several limits that a step is past, any is told

@@ -1,9 +1,10 @@
 // What the failures of the work are told as.
 ghost use Rattle.std.specs.Prelude.{◌≡◌};
-ghost use Rattle.lie_app.specs.Causes.{not_read, not_solved, not_done, put_outcome};
+ghost use Rattle.lie_app.specs.Causes.{not_read, not_solved, not_done, not_analysed, put_outcome};
 
 use crate::outcome::{Failure, NoText, Outcome, Refusal};
 use crate::status::Source;
+use lie_analysis::Unfinished;
 use lie_outer::SinkFail;
 use lie_ring::PolyFail;
 use lie_scan::fault::ReadFail;
@@ -36,6 +37,17 @@ pub fn not_done(step: u64, fail: PolyFail) -> NoText
     match fail {
         PolyFail::Past(what) => NoText::Refused(Refusal::Past { step, what }),
         PolyFail::NoMemory => NoText::NoMemory,
+    }
+}
+
+/// An analysis without an end.
+pub fn not_analysed(budget: u64, fail: Unfinished) -> NoText
+    ensures { result ≡ not_analysed budget fail }
+{
+    match fail {
+        Unfinished::Past { step, what } => NoText::Refused(Refusal::Past { step, what }),
+        Unfinished::Spent => NoText::Refused(Refusal::Spent { steps: budget }),
+        Unfinished::NoMemory => NoText::NoMemory,
     }
 }
 

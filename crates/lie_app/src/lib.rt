@@ -1,6 +1,7 @@
 //! The top call: from the words of a command line over files to a report.
 #![tactic(auto)]
 
+mod analyse;
 mod causes;
 mod checking;
 mod determine;

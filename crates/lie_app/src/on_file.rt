@@ -5,7 +5,7 @@ ghost use Rattle.lie_app.specs.declared.outcome.Outcome.{Outcome as AnOutcome};
 ghost use Rattle.lie_app.specs.OnFile.{IsFileOutput, HasFileCause, IsDueOnFile};
 ghost use Rattle.lie_app.specs.Outside.{outside};
 ghost use Rattle.lie_app.specs.Run.{LeavesOut};
-ghost use Rattle.lie_app.specs.Words.{file_in_words};
+ghost use Rattle.lie_app.specs.Words.{file_in_words, HasFileBudget};
 ghost use Rattle.lie_app.specs.Work.{IsTextOf, IsWorkDue, IsWorkOutcome, IsEnded};
 
 use crate::causes::put_outcome;
@@ -26,6 +26,7 @@ const TOO_LONG: BadFile = BadFile {
 
 // Puts what the command makes of the bytes of its file.
 fn answer<O: Sink>(alloc: Global, command: &FileCommand<&str>, bytes: &[u8], out: &mut O) -> Outcome
+    requires { HasFileBudget command.now }
     ensures cause { IsWorkOutcome (file_in_words (λ w. w.now) command.now) bytes.now result }
     ensures due { (due : AnOutcome) → IsWorkDue (file_in_words (λ w. w.now) command.now) bytes.now due → IsEnded due result }
     ensures out { LeavesOut O.taken O.fault_count O.starved_count out.old out.new
@@ -46,6 +47,7 @@ pub fn on_file<F: Files, O: Sink>(
     files: &mut F,
     out: &mut O,
 ) -> Outcome
+    requires { HasFileBudget command.now }
     ensures cause { HasFileCause (outside (F.held files.old)) path.now (file_in_words (λ w. w.now) command.now) result }
     ensures read_fault { result ≡ Outcome.Failed Failure.ReadFault → Rose (F.fault_count files.old) (F.fault_count files.new) }
     ensures kept { F.held files.new ≡ F.held files.old }

@@ -26,6 +26,11 @@ pub enum Refusal {
         /// The limit.
         what: PastKind,
     },
+    /// The run made these steps, all that it may, and a rule applies.
+    Spent {
+        /// The steps.
+        steps: u64,
+    },
 }
 
 /// Why a command failed: a cause outside.

@@ -30,10 +30,15 @@ pub enum Status {
     Not(NotKind, u32),
     /// A step of the work passes this limit.
     Past {
-        /// The number of the step: 0 for determining equations and for the check of a field.
+        /// The number of the step: 0 for determining equations and for the check of a field, and from 1 on those of a run.
         step: u64,
         /// The limit.
         what: PastKind,
+    },
+    /// The run made these steps, all that it may, and a rule applies.
+    Spent {
+        /// The steps.
+        steps: u64,
     },
     /// There was no memory.
     NoMemory,
@@ -55,6 +60,7 @@ fn refused(refusal: Refusal) -> Status
         Refusal::Bad(source, bad) => Status::Bad(source, bad),
         Refusal::Not(kind, equation) => Status::Not(kind, equation),
         Refusal::Past { step, what } => Status::Past { step, what },
+        Refusal::Spent { steps } => Status::Spent { steps },
     }
 }
 
@@ -81,6 +87,7 @@ pub fn code(status: &Status) -> u8
         Status::Bad(_, _) => 3,
         Status::Not(_, _) => 4,
         Status::Past { .. } => 5,
+        Status::Spent { .. } => 6,
         Status::NoMemory => 7,
         Status::ReadFault => 8,
         Status::WriteFault => 9,

@@ -1,7 +1,7 @@
 // The line of a status on the error stream, which takes no memory.
 ghost use Rattle.std.specs.Prelude.{◌≡◌, ◌≤◌, ◌+◌, ◌<◌, ◌^◌, ◌++◌, length, decimal, codes};
 ghost use Rattle.arrayvec.specs.ArrayString.{array_string_len};
-ghost use Rattle.lie_app.specs.Status.{bad_text, not_text, past_text, fault_line, not_line, past_line, line_of, start_of};
+ghost use Rattle.lie_app.specs.Status.{bad_text, not_text, past_text, fault_line, not_line, past_line, spent_line, line_of, start_of};
 
 use crate::status::{Source, Status};
 use arrayvec::ArrayString;
@@ -134,6 +134,16 @@ fn past_line(kind: PastKind, step: u64) -> Line
     line
 }
 
+// The line of a run that made all steps that it may.
+fn spent_line(steps: u64) -> Line
+    ensures { result.bytes ≡ spent_line steps }
+{
+    let mut line = begun("lie: spent ");
+    push_number(&mut line, steps);
+    line.push_str(" steps\n");
+    line
+}
+
 /// The line of the status on the error stream, with its end; empty for `Done`. Takes no memory.
 pub fn line(status: &Status) -> Line
     ensures { result.bytes ≡ line_of status.now }
@@ -144,6 +154,7 @@ pub fn line(status: &Status) -> Line
         Status::Bad(source, bad) => fault_line(*source, bad),
         Status::Not(kind, equation) => not_line(*kind, *equation),
         Status::Past { step, what } => past_line(*what, *step),
+        Status::Spent { steps } => spent_line(*steps),
         Status::NoMemory => begun("lie: no memory\n"),
         Status::ReadFault => begun("lie: read fault\n"),
         Status::WriteFault => begun("lie: write fault\n"),

@@ -1,7 +1,7 @@
 // The call that does all that the program does: it performs the command, and tells the status.
 ghost use Rattle.std.specs.Prelude.{◌≡◌, Some};
 ghost use Rattle.lie_outer.specs.Causes.{Rose};
-ghost use Rattle.lie_app.specs.Words.{AnyCommand, texts, in_words, command_of};
+ghost use Rattle.lie_app.specs.Words.{AnyCommand, texts, in_words, command_of, HasBudget};
 ghost use Rattle.lie_app.specs.declared.outcome.Outcome.{Outcome as AnOutcome};
 ghost use Rattle.lie_app.specs.Outcomes.{outcome_of};
 ghost use Rattle.lie_app.specs.Outside.{outside};
@@ -23,6 +23,7 @@ fn obey<F: Files, O: Sink>(
     files: &mut F,
     out: &mut O,
 ) -> Outcome
+    requires { HasBudget command.now }
     ensures cause { HasCommandCause (outside (F.held files.old)) (in_words (λ w. w.now) command.now) result }
     ensures read_fault { result ≡ Outcome.Failed Failure.ReadFault → Rose (F.fault_count files.old) (F.fault_count files.new) }
     ensures kept { F.held files.new ≡ F.held files.old }
@@ -68,9 +69,9 @@ fn tell<E: Sink>(alloc: Global, status: &Status, err: &mut E)
     }
 }
 
-/// Does what the words say, and answers how it went. The words leave out the program's own name; they are `determine` and the path
-/// of a file, or `check`, the path of a file and the text of a field. The report or the line of the check goes to `out`, and the line
-/// of any status but `Done` to `err`. A report has the determining equations of the file's system: the conditions under which a
+/// Does what the words say, and answers how it went. The words leave out the program's own name; they are `determine` or
+/// `analyse` and the path of a file, or `check`, the path of a file and the text of a field. The report or the line of the check
+/// goes to `out`, and the line of any status but `Done` to `err`. A report has the determining equations of the file's system: the conditions under which a
 /// vector field meets its invariance condition (Olver, "Applications of Lie Groups to Differential Equations", sections 2.3 and 2.4).
 pub fn run<F: Files, O: Sink, E: Sink>(
     alloc: Global,

@@ -15,8 +15,14 @@ returns-in-Determine-clause-cause c = rw c.in-Determine.is (if_err c.report_of.r
 pub returns-in-Determine-clause-due : goal.returns-in-Determine-clause-due
 returns-in-Determine-clause-due c = rw c.in-Determine.is (λ due d. c.report_of.ensures.due c.args.bytes.now due c.in-Ok.ensures.solved d)
 
+pub returns-in-Check-clause-cause : goal.returns-in-Check-clause-cause
+returns-in-Check-clause-cause c = rw (c.in-Check.is, ← c.as_bytes.ensures.value) (if_err c.check_of.result _ _ (λ none cause. cause c.args.bytes.now c.in-Ok.ensures.solved) c.check_of.ensures.cause)
+
+pub returns-in-Check-clause-due : goal.returns-in-Check-clause-due
+returns-in-Check-clause-due c = rw (c.in-Check.is, ← c.as_bytes.ensures.value) (λ due d. c.check_of.ensures.due c.args.bytes.now due c.in-Ok.ensures.solved d)
+
 pub returns-clause-cause : goal.returns-clause-cause
-returns-clause-cause c = rw (c.in-Check.is, ← c.as_bytes.ensures.value) (if_err c.check_of.result _ _ (λ none cause. cause c.args.bytes.now c.in-Ok.ensures.solved) c.check_of.ensures.cause)
+returns-clause-cause c = rw c.in-Analyse.is (if_err c.symmetries_of.result _ _ (λ none cause. cause c.args.bytes.now c.in-Ok.ensures.solved) c.symmetries_of.ensures.cause)
 
 pub returns-clause-due : goal.returns-clause-due
-returns-clause-due c = rw (c.in-Check.is, ← c.as_bytes.ensures.value) (λ due d. c.check_of.ensures.due c.args.bytes.now due c.in-Ok.ensures.solved d)
+returns-clause-due c = rw c.in-Analyse.is (λ due d. c.symmetries_of.ensures.due c.args.bytes.now due c.in-Ok.ensures.solved d)
