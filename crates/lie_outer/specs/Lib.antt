@@ -2,5 +2,8 @@
 pub mod Causes
 pub mod Files
 pub mod Sink
+pub mod Names
+pub mod Rows
+pub mod Keeper
 pub mod Plans
 pub mod Memory
