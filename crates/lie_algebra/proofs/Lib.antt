@@ -1,11 +1,11 @@
 mod FiniteSystems
 mod FiniteLists
-mod Halving
-mod ColumnLists
+pub mod Halving
+pub mod ColumnLists
 mod FormColumns
 mod GeneralColumns
 mod BasisOutcomes
-mod UnknownRows
+pub mod UnknownRows
 mod RowFields
 mod SystemBasis
 mod ClosedForms

@@ -66,7 +66,7 @@ impl Column {
 }
 
 /// The sum of the exponents.
-fn degree_of(mono: &Mono) -> u128
+pub fn degree_of(mono: &Mono) -> u128
     ensures { result ≡ degree mono.now }
 {
     sum_of_exponents(mono.pairs())

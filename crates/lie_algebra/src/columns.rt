@@ -27,7 +27,7 @@ fn place_of(columns: &[Column], column: &Column) -> Result<usize, usize>
 }
 
 /// Puts a column into its place among others in order, unless it is there. `Past(Width)` comes exactly where it would be one too many.
-fn insert_column(columns: &mut Vec<Column>, column: Column) -> Result<(), PolyFail>
+pub fn insert_column(columns: &mut Vec<Column>, column: Column) -> Result<(), PolyFail>
     requires sorted { IsStrictlySortedBy column_cmp columns.old.items }
     requires few { length columns.old.items ≤ greatest_column_count }
     ensures inserted { OnOk result (AreColumnsOf (columns.old.items ++ column ∷ []) columns.new.items) }

@@ -12,8 +12,13 @@ mod system_basis;
 mod unknowns;
 
 pub use closed_form::close_form;
+pub use column::{Column, degree_of};
+pub use columns::insert_column;
+pub use fields::fields_of;
 pub use finite_systems::finite;
+pub use rows::number_at;
 pub use system_basis::basis;
+pub use unknowns::count_components;
 
 #[cfg(test)]
 mod tests;

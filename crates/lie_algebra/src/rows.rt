@@ -37,7 +37,7 @@ fn place_in(list: &[(Mono, Whole)], mono: &Mono) -> Result<usize, usize>
 }
 
 /// The number of a monomial among terms in print order, 0 where it is not there.
-fn number_at(list: &[(Mono, Whole)], mono: &Mono) -> Whole
+pub fn number_at(list: &[(Mono, Whole)], mono: &Mono) -> Whole
     requires { IsCanonical polynomial_terms list.now }
     ensures { result ≡ coefficient (polynomial_of list.now) mono.now }
 {
