@@ -3,6 +3,7 @@
 
 use lie_app::{Status, code, run};
 use lie_outer::{HostFiles, HostSink, NoMemory};
+use lie_sql::SqlKeeper;
 use std::process::ExitCode;
 use std::{env, io};
 
@@ -22,6 +23,9 @@ fn words(rt: &HostRuntime) -> Result<Vec<String>, NoMemory> {
     Ok(words)
 }
 
+// The file of kept studies, in the folder where the program runs.
+const DESK: &str = "lie.db";
+
 // Makes the objects of the system, and calls. Without memory for them there is no call.
 fn perform(rt: &HostRuntime) -> Result<Status, NoMemory> {
     let alloc = rt.alloc();
@@ -29,7 +33,8 @@ fn perform(rt: &HostRuntime) -> Result<Status, NoMemory> {
     let mut files = HostFiles::new(rt, alloc)?;
     let mut out = HostSink::out(rt, alloc)?;
     let mut err = HostSink::err(rt, alloc)?;
-    Ok(run(alloc, &words, &mut files, &mut out, &mut err))
+    let mut keeper = SqlKeeper::new(rt, alloc, DESK)?;
+    Ok(run(alloc, &words, &mut files, &mut out, &mut err, &mut keeper))
 }
 
 fn main(rt: HostRuntime) -> ExitCode {

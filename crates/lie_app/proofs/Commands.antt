@@ -1,7 +1,7 @@
 -- What clap makes of a command line is the command that its words are.
-use Rattle.std.specs.Prelude.{Bool, true, false, ◌≡◌, ◌||◌, List, [], ◌∷◌, codes, map, find, Some, None, fold, is_some, option_and_then, if◌then◌else◌}
+use Rattle.std.specs.Prelude.{Bool, true, false, ◌≡◌, ◌||◌, List, [], ◌∷◌, codes, map, find, Some, None, fold, is_some, if◌then◌else◌}
 use Rattle.std.proofs.Common.{refl, sym, ap, ap₂, ◌∙◌, subst, inl, inr}
-use Rattle.std.specs.List.{AllByRecursion as Every, list_any}
+use Rattle.std.specs.List.{AllByRecursion as Every}
 use Rattle.std.specs.Option.{option_map, option_map_or}
 use Rattle.std.specs.Str.{IsUtf8, bytes_eq}
 use Rattle.std.specs.String.{string_bytes}
@@ -55,7 +55,13 @@ all_have_places = (
   λ read. (refl, refl, tt, refl, refl),
   (
     λ read. (refl, refl, (refl, tt), refl, (refl, refl, tt, refl, refl)),
-    (λ read. (refl, refl, tt, refl, refl), tt),
+    (
+      λ read. (refl, refl, tt, refl, refl),
+      (
+        λ read. (refl, refl, (refl, tt), refl, (refl, refl, tt, refl, refl)),
+        (λ read. refl, (λ read. (refl, refl, tt, refl, refl), (λ read. (refl, refl, tt, refl, refl), tt))),
+      ),
+    ),
   ),
 )
 

@@ -7,10 +7,7 @@ pub mod Turns
 pub mod Readings
 pub mod Commands
 pub mod Numbers
-pub mod SolvedFiles
-pub mod FileRefusals
-pub mod DueReports
-pub mod DueChecks
-pub mod DueSymmetries
+pub mod StudyNames
 pub mod Outcomes
+pub mod StudiesOnFiles
 pub mod SomeDue

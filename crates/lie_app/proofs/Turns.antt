@@ -1,24 +1,23 @@
 -- What clap makes of one more word of a command.
-use Rattle.std.specs.Prelude.{ℕ, Bool, true, false, ◌≡◌, ◌||◌, ◌&&◌, List, [], ◌∷◌, ◌++◌, codes, Some, None, find, map, nat_lt, option_and_then, if◌then◌else◌}
-use Rattle.std.proofs.Common.{refl, sym, ap, ap₂, ◌∙◌, subst}
-use Rattle.std.specs.Option.{option_map, option_map_or}
+use Rattle.std.specs.Prelude.{ℕ, Bool, true, false, ◌≡◌, List, [], ◌∷◌, codes, Some, None, nat_lt, if◌then◌else◌}
+use Rattle.std.proofs.Common.{refl, sym, ap, ap₂, ◌∙◌}
+use Rattle.std.specs.Option.{option_map_or}
 use Rattle.std.specs.Str.{IsUtf8, bytes_eq}
 use Rattle.std.specs.declared.option.Option.{Option}
 use Rattle.std.proofs.Math.Bool.{and-false, or-false}
 use Rattle.std.proofs.lemmas.Slice.Eq.{bytes_eq-Decides}
 use Rattle.clap.specs.Lexer.{long_of}
-use Rattle.clap.specs.Walk.{Held, Names, Outcome, Row, Rule, Step, Text, Waiting, Walk, after_flag, after_step, arg_by_id, arg_by_index, arg_by_long, has_row, idle, is_pending, long_met, long_or_other, long_word, next, option as awaits, option_met, option_word, positional, positional_held, pushed, reacted, settled, subcommand_met, subcommand_or_other, to_positional, trailing, value, walked, word_met}
+use Rattle.clap.specs.Walk.{Held, Row, Rule, Step, Text, Waiting, Walk, after_flag, after_step, arg_by_id, arg_by_index, arg_by_long, idle, is_pending, long_met, long_or_other, next, option as awaits, option_met, option_word, positional, pushed, reacted, settled, subcommand_met, subcommand_or_other, to_positional, trailing, value, walked, word_met}
 use Rattle.clap.specs.Simple.{Shape}
 use Rattle.clap.specs.Kinds.{Kinds, or_else}
-use Rattle.clap.specs.Faults.{flag_word_fault, long_fault, option_fault, other_fault, positional_fault, react_fault, settle_fault, step_fault, stray_fault, turn_fault, use_fault, walk_fault, word_fault}
+use Rattle.clap.specs.Faults.{flag_word_fault, long_fault, option_fault, other_fault, positional_fault, react_fault, settle_fault, step_fault, turn_fault, use_fault, walk_fault, word_fault}
 use Rattle.clap.specs.declared.error.kind.ErrorKind.{ErrorKind}
 use Rattle.clap.specs.declared.error.kind.ErrorKind.TheVariants.{InvalidValue, UnknownArgument}
-use Rattle.lie_app.specs.Words.{Values, is_among, is_dashed, option_in}
+use Rattle.lie_app.specs.Words.{is_among, is_dashed, option_in}
 use Rattle.lie_app.specs.Interface.{subcommand}
 use Rattle.lie_app.proofs.Dashes.{is_no_flag, long_is, refuses_dashed}
 use Rattle.lie_app.proofs.Rules.{rules_from, placed_rule, option_rule, next_place, option_by_long, no_long, no_short}
-use Rattle.lie_app.proofs.Rows.{found_rows}
-use Rattle.lie_app.proofs.Walks.{Holds, IsFaulty, as_built, end_fault, goes, option_takes, reacted_holds, reacts_clean, reacts_refused, read_from, stands, stops, unless, waits}
+use Rattle.lie_app.proofs.Walks.{IsFaulty, as_built, goes, read_from, stands, stops, waits}
 
 module _ {X : Type 0} (title : Text) (arguments options : List Text) (read : List Row → Option X) where
   abbrev shape : Shape

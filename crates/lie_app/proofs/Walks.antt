@@ -1,22 +1,20 @@
 -- What clap makes of the words of one command.
-use Rattle.std.specs.Prelude.{ℕ, Bool, true, false, ◌≡◌, ◌||◌, ◌&&◌, List, [], ◌∷◌, ◌++◌, codes, Some, None, fold, not, if◌then◌else◌}
-use Rattle.std.proofs.Common.{refl, sym, ap, ap₂, ◌∙◌}
-use Rattle.std.specs.Option.{option_map, option_map_or}
-use Rattle.std.specs.Str.{bytes_eq}
+use Rattle.std.specs.Prelude.{ℕ, Bool, true, false, ◌≡◌, ◌&&◌, List, [], ◌∷◌, ◌++◌, Some, None, fold, if◌then◌else◌}
+use Rattle.std.proofs.Common.{refl, ap, ap₂, ◌∙◌}
+use Rattle.std.specs.Option.{option_map_or}
 use Rattle.std.specs.declared.option.Option.{Option}
-use Rattle.std.proofs.Math.Bool.{and-false}
-use Rattle.clap.specs.Walk.{Held, Row, Rule, Step, Text, Walk, after_step, arg_by_id, arg_by_index, finished, has_row, idle, is_pending, pushed, positional_held, reacted, settled, takes_several, to_positional, used, used_by_id, value, walked, with_values, without, word_met}
+use Rattle.clap.specs.Walk.{Held, Row, Rule, Text, Walk, arg_by_id, finished, has_row, idle, reacted, settled, used, used_by_id, walked, with_values, without}
 use Rattle.clap.specs.Simple.{Shape, built_leaf, inherited}
 use Rattle.clap.specs.Kinds.{Kinds, or_else}
-use Rattle.clap.specs.Faults.{check_fault, defaults_fault, positional_fault, react_fault, repeat_fault, settle_fault, step_fault, stray_fault, turn_fault, use_fault, walk_fault, word_fault}
+use Rattle.clap.specs.Faults.{check_fault, defaults_fault, react_fault, repeat_fault, settle_fault, turn_fault, use_fault, walk_fault}
 use Rattle.clap.specs.declared.builder.value_parser.Reading.TheVariants.{AsWritten}
 use Rattle.clap.specs.declared.parser.matches.ValueSource.TheVariants.{CommandLine}
 use Rattle.clap.specs.declared.error.kind.ErrorKind.{ErrorKind}
 use Rattle.clap.specs.declared.error.kind.ErrorKind.TheVariants.{ArgumentConflict}
-use Rattle.lie_app.specs.Words.{Values, value_of}
-use Rattle.lie_app.specs.Interface.{interface, subcommand}
-use Rattle.lie_app.proofs.Rules.{rules_from, placed_rule, option_rule, next_place}
-use Rattle.lie_app.proofs.Rows.{found_row, found_rows, value_added}
+use Rattle.lie_app.specs.Words.{Values}
+use Rattle.lie_app.specs.Interface.{interface}
+use Rattle.lie_app.proofs.Rules.{placed_rule, option_rule}
+use Rattle.lie_app.proofs.Rows.{found_rows, value_added}
 
 -- what is read where no fault comes
 abbrev pub unless : {X : Type 0} → Kinds → Option X → Option X

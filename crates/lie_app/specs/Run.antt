@@ -4,31 +4,41 @@ use Rattle.std.specs.Io.KnownBytes.{Appends}
 use Rattle.std.specs.declared.option.Option.{Option}
 use Rattle.lie_outer.specs.Causes.{Rose, next_count}
 use Rattle.lie_outer.specs.Sink.{AppendsFront}
+use Rattle.lie_outer.specs.declared.rows.Row.{Row}
 use Rattle.lie_app.specs.declared.status.Status.{Status}
 use Rattle.lie_app.specs.declared.status.Status.TheVariants as statuses
-use Rattle.lie_app.specs.declared.outcome.Outcome.{Outcome}
-use Rattle.lie_app.specs.declared.outcome.Outcome.TheVariants.{Done, Refused, Failed}
-use Rattle.lie_app.specs.declared.outcome.Refusal.TheVariants.{Usage}
-use Rattle.lie_app.specs.declared.outcome.Failure.TheVariants.{NoMemory, ReadFault, WriteFault}
-use Rattle.lie_app.specs.declared.words.Command.TheVariants.{OnFile}
+use Rattle.lie_work.specs.declared.outcome.Outcome.{Outcome}
+use Rattle.lie_work.specs.declared.outcome.Outcome.TheVariants.{Done, Refused, Failed}
+use Rattle.lie_work.specs.declared.outcome.Refusal.TheVariants.{Usage}
+use Rattle.lie_work.specs.declared.outcome.Failure.TheVariants.{NoMemory, ReadFault, WriteFault, KeeperFault}
+use Rattle.lie_app.specs.declared.words.Command.TheVariants.{OnFile, OnDesk}
 use Rattle.lie_app.specs.OnFile.{IsFileOutput, HasFileCause, IsDueOnFile}
+use Rattle.lie_app.specs.OnDesk.{IsDeskOutput, HasRefusal, IsRefusedOnDesk, IsDueOnDesk, LeavesRows}
 use Rattle.lie_app.specs.Outside.{Outside}
 use Rattle.lie_app.specs.Status.{line_of}
 use Rattle.lie_app.specs.Words.{AnyCommand}
-use Rattle.lie_app.specs.Work.{IsAnswered}
+use Rattle.lie_work.specs.Work.{IsAnswered, IsEnded}
 
 -- ---- commands: a further kind adds its line to each definition
--- the text is what the command puts
-abbrev pub IsOutputOf : Outside → AnyCommand → List ℕ → Type 0
-IsOutputOf outside (OnFile path c) text = IsFileOutput outside path c text
+-- the text is what the command puts, and it leaves these rows
+abbrev pub IsOutputOf : Outside → Option (List Row) → AnyCommand → List ℕ → Type 0
+IsOutputOf outside left (OnFile path c) text = IsFileOutput outside.files path c text
+IsOutputOf outside left (OnDesk c) text = IsDeskOutput outside left c text
+
+-- what becomes of the rows, but for those that an output is told with: a command on a file leaves them
+abbrev pub LeavesDesk : Type 0 → Outside → Option (List Row) → AnyCommand → Outcome → Type 0
+LeavesDesk starved outside left (OnFile path c) outcome = left ≡ outside.rows
+LeavesDesk starved outside left (OnDesk c) outcome = LeavesRows starved outside.rows left outcome
 
 -- what an outcome says of the command and of what it names
 abbrev pub HasCommandCause : Outside → AnyCommand → Outcome → Type 0
-HasCommandCause outside (OnFile path c) outcome = HasFileCause outside path c outcome
+HasCommandCause outside (OnFile path c) outcome = HasFileCause outside.files path c outcome
+HasCommandCause outside (OnDesk c) outcome = HasRefusal (IsRefusedOnDesk outside c) outcome
 
 -- which outcome is due
 abbrev pub IsDue : Outside → AnyCommand → Outcome → Type 0
-IsDue outside (OnFile path c) due = IsDueOnFile outside path c due
+IsDue outside (OnFile path c) due = IsDueOnFile outside.files path c due
+IsDue outside (OnDesk c) due = IsDueOnDesk outside c due
 
 -- ---- words
 -- what an outcome says of words: those that are no command are refused as wrong, unless memory is wanting
@@ -36,14 +46,24 @@ abbrev pub HasCause : Outside → Option AnyCommand → Outcome → Type 0
 HasCause outside None outcome = (outcome ≡ Refused Usage) ⊎ (outcome ≡ Failed NoMemory)
 HasCause outside (Some c) outcome = HasCommandCause outside c outcome
 
--- the text is what the words put
-abbrev pub IsOutput : Outside → Option AnyCommand → List ℕ → Type 0
-IsOutput outside command text = IsSomeAnd command (λ c. IsOutputOf outside c text)
+-- the text is what the words put, and it leaves these rows
+abbrev pub IsOutput : Outside → Option (List Row) → Option AnyCommand → List ℕ → Type 0
+IsOutput outside left command text = IsSomeAnd command (λ c. IsOutputOf outside left c text)
+
+-- what becomes of the rows: words that are no command leave them
+abbrev pub LeavesWordsDesk : Type 0 → Outside → Option (List Row) → Option AnyCommand → Outcome → Type 0
+LeavesWordsDesk starved outside left None outcome = left ≡ outside.rows
+LeavesWordsDesk starved outside left (Some c) outcome = LeavesDesk starved outside left c outcome
+
+-- the outcome that is due is answered, unless memory is wanting, or a file, the output or the keeper fails
+abbrev pub IsStopped : Outcome → Outcome → Type 0
+IsStopped due outcome = IsEnded due outcome ⊎ (outcome ≡ Failed KeeperFault)
 
 -- the outcome that is due is answered, unless memory is wanting or a count rises
-abbrev pub IsComplete : Outside → Option AnyCommand → Type 0 → Type 0 → Outcome → Type 0
-IsComplete outside command read_rose write_rose outcome =
-    (c : AnyCommand) (due : Outcome) → command ≡ Some c → IsDue outside c due → ¬ read_rose → ¬ write_rose → IsAnswered due outcome
+abbrev pub IsComplete : Outside → Option AnyCommand → Type 0 → Type 0 → Type 0 → Outcome → Type 0
+IsComplete outside command read_rose write_rose keeper_rose outcome =
+    (c : AnyCommand) (due : Outcome) → command ≡ Some c → IsDue outside c due → ¬ read_rose → ¬ write_rose → ¬ keeper_rose
+    → IsAnswered due outcome
 
 -- ---- the streams
 -- a text was put, all of it
@@ -62,6 +82,7 @@ LeavesOut taken faults starved old new is_text (Refused refusal) = new ≡ old
 LeavesOut taken faults starved old new is_text (Failed NoMemory) =
     (new ≡ old) ⊎ (Rose (starved old) (starved new) × PutsFront (taken old) (taken new) is_text)
 LeavesOut taken faults starved old new is_text (Failed ReadFault) = new ≡ old
+LeavesOut taken faults starved old new is_text (Failed KeeperFault) = new ≡ old
 LeavesOut taken faults starved old new is_text (Failed WriteFault) =
     Rose (faults old) (faults new) × PutsFront (taken old) (taken new) is_text
 

@@ -9,10 +9,11 @@ use Rattle.lie_scan.specs.declared.fault.BadKind.TheVariants.{TooManyEquations, 
 use Rattle.lie_scan.specs.declared.fault.BadFile.{BadFile}
 use Rattle.lie_solved.specs.declared.solved.NotKind.{NotKind}
 use Rattle.lie_solved.specs.declared.solved.NotKind.TheVariants.{NoDerivative, LeadNotLinear, LeadRepeated, LeadInside}
-use Rattle.lie_app.specs.declared.status.Source.{Source}
-use Rattle.lie_app.specs.declared.status.Source.TheVariants.{File, Field}
+use Rattle.lie_work.specs.declared.source.Source.{Source}
+use Rattle.lie_work.specs.declared.source.Source.TheVariants.{File, Field}
 use Rattle.lie_app.specs.declared.status.Status.{Status}
-use Rattle.lie_app.specs.declared.status.Status.TheVariants.{Done, Usage, Bad, Not, Past, Spent, NoMemory, ReadFault, WriteFault, Missing}
+use Rattle.lie_app.specs.declared.status.Status.TheVariants.{Done, Usage, Bad, Not, Past, Spent, NoMemory, ReadFault, WriteFault}
+use Rattle.lie_app.specs.declared.status.Status.TheVariants.{KeeperFault, Missing, Taken, Full}
 
 abbrev pub code_of : Status → ℕ
 code_of Done = 0
@@ -24,7 +25,10 @@ code_of (Spent steps) = 6
 code_of NoMemory = 7
 code_of ReadFault = 8
 code_of WriteFault = 9
+code_of KeeperFault = 10
 code_of Missing = 12
+code_of (Taken text) = 13
+code_of Full = 14
 
 -- ---- names
 abbrev pub bad_text : BadKind → List ℕ
@@ -87,4 +91,7 @@ line_of (Spent steps) = spent_line steps
 line_of NoMemory = codes "lie: no memory\n"
 line_of ReadFault = codes "lie: read fault\n"
 line_of WriteFault = codes "lie: write fault\n"
+line_of KeeperFault = codes "lie: keeper fault\n"
 line_of Missing = codes "lie: missing\n"
+line_of (Taken text) = codes "lie: taken\n"
+line_of Full = codes "lie: full\n"

@@ -1,24 +1,19 @@
 // A command on a file: the file is read, and what the command makes of its bytes is put.
 ghost use Rattle.std.specs.Prelude.{◌≡◌};
 ghost use Rattle.lie_outer.specs.Causes.{Rose};
-ghost use Rattle.lie_app.specs.declared.outcome.Outcome.{Outcome as AnOutcome};
+ghost use Rattle.lie_work.specs.declared.outcome.Outcome.{Outcome as AnOutcome};
 ghost use Rattle.lie_app.specs.OnFile.{IsFileOutput, HasFileCause, IsDueOnFile};
-ghost use Rattle.lie_app.specs.Outside.{outside};
 ghost use Rattle.lie_app.specs.Run.{LeavesOut};
-ghost use Rattle.lie_app.specs.Words.{file_in_words, HasFileBudget};
-ghost use Rattle.lie_app.specs.Work.{IsTextOf, IsWorkDue, IsWorkOutcome, IsEnded};
+ghost use Rattle.lie_work.specs.Commands.{file_in_words, HasFileBudget};
+ghost use Rattle.lie_work.specs.Work.{IsTextOf, IsWorkDue, IsWorkOutcome, IsEnded};
 
-use crate::causes::put_outcome;
-use crate::outcome::{Failure, NoText, Outcome, Refusal};
-use crate::status::Source;
-use crate::words::FileCommand;
-use crate::work::text_of;
 use lie_outer::{FileFail, Files, Sink};
 use lie_scan::fault::{BadFile, BadKind, MAX_BYTES};
+use lie_work::{Failure, FileCommand, NoText, Outcome, Refusal, Source, put_outcome, text_of};
 use std::alloc::Global;
 
-// The fault of a file that has more bytes.
-const TOO_LONG: BadFile = BadFile {
+/// The fault of a file that has more bytes.
+pub const TOO_LONG: BadFile = BadFile {
     line: 1,
     column: 1,
     kind: BadKind::TooLong,
@@ -48,13 +43,14 @@ pub fn on_file<F: Files, O: Sink>(
     out: &mut O,
 ) -> Outcome
     requires { HasFileBudget command.now }
-    ensures cause { HasFileCause (outside (F.held files.old)) path.now (file_in_words (λ w. w.now) command.now) result }
+    ensures cause { HasFileCause (F.held files.old) path.now (file_in_words (λ w. w.now) command.now) result }
     ensures read_fault { result ≡ Outcome.Failed Failure.ReadFault → Rose (F.fault_count files.old) (F.fault_count files.new) }
     ensures kept { F.held files.new ≡ F.held files.old }
+    ensures no_keeper { result ≡ Outcome.Failed Failure.KeeperFault → ⊥ }
     ensures due { (due : AnOutcome)
-        → IsDueOnFile (outside (F.held files.old)) path.now (file_in_words (λ w. w.now) command.now) due → IsEnded due result }
+        → IsDueOnFile (F.held files.old) path.now (file_in_words (λ w. w.now) command.now) due → IsEnded due result }
     ensures out { LeavesOut O.taken O.fault_count O.starved_count out.old out.new
-        (IsFileOutput (outside (F.held files.old)) path.now (file_in_words (λ w. w.now) command.now)) result }
+        (IsFileOutput (F.held files.old) path.now (file_in_words (λ w. w.now) command.now)) result }
 {
     match files.read(alloc, path, MAX_BYTES) {
         Ok(bytes) => answer(alloc, command, bytes.bytes(), out),

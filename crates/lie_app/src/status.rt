@@ -3,22 +3,14 @@ ghost use Rattle.std.specs.Prelude.{◌≡◌};
 ghost use Rattle.lie_app.specs.Outcomes.{outcome_of};
 ghost use Rattle.lie_app.specs.Status.{code_of};
 
-use crate::outcome::{Failure, Outcome, Refusal};
+use lie_outer::Text;
 use lie_ring::PastKind;
 use lie_scan::fault::BadFile;
 use lie_solved::NotKind;
-
-/// A text that is read.
-#[derive(Clone, Copy, Debug, PartialEq, Eq)]
-pub enum Source {
-    /// The file of a system.
-    File,
-    /// The text of a field.
-    Field,
-}
+use lie_work::{Failure, Outcome, Refusal, Source};
 
 /// How a call went.
-#[derive(Drop, Debug, PartialEq, Eq)]
+#[derive(Drop, Debug)]
 pub enum Status {
     /// The whole output was taken.
     Done,
@@ -46,8 +38,17 @@ pub enum Status {
     ReadFault,
     /// The output could not be written.
     WriteFault,
-    /// The file is not there.
+    /// The keeper of studies failed.
+    KeeperFault,
+    /// The file is not there, or no row has the name.
     Missing,
+    /// The name is kept with another text.
+    Taken {
+        /// That text.
+        text: Text,
+    },
+    /// No room is left for a further row.
+    Full,
 }
 
 // The status that tells a refusal.
@@ -61,6 +62,8 @@ fn refused(refusal: Refusal) -> Status
         Refusal::Not(kind, equation) => Status::Not(kind, equation),
         Refusal::Past { step, what } => Status::Past { step, what },
         Refusal::Spent { steps } => Status::Spent { steps },
+        Refusal::Taken { text } => Status::Taken { text },
+        Refusal::Full => Status::Full,
     }
 }
 
@@ -74,6 +77,7 @@ pub fn status_of(outcome: Outcome) -> Status
         Outcome::Failed(Failure::NoMemory) => Status::NoMemory,
         Outcome::Failed(Failure::ReadFault) => Status::ReadFault,
         Outcome::Failed(Failure::WriteFault) => Status::WriteFault,
+        Outcome::Failed(Failure::KeeperFault) => Status::KeeperFault,
     }
 }
 
@@ -91,6 +95,9 @@ pub fn code(status: &Status) -> u8
         Status::NoMemory => 7,
         Status::ReadFault => 8,
         Status::WriteFault => 9,
+        Status::KeeperFault => 10,
         Status::Missing => 12,
+        Status::Taken { .. } => 13,
+        Status::Full => 14,
     }
 }

@@ -3,12 +3,13 @@ ghost use Rattle.std.specs.Prelude.{◌≡◌, ◌≤◌, ◌+◌, ◌<◌, ◌^
 ghost use Rattle.arrayvec.specs.ArrayString.{array_string_len};
 ghost use Rattle.lie_app.specs.Status.{bad_text, not_text, past_text, fault_line, not_line, past_line, spent_line, line_of, start_of};
 
-use crate::status::{Source, Status};
+use crate::status::Status;
 use arrayvec::ArrayString;
 use itoa::Buffer;
 use lie_ring::PastKind;
 use lie_scan::fault::{BadFile, BadKind};
 use lie_solved::NotKind;
+use lie_work::Source;
 
 /// Room for any line.
 pub type Line = ArrayString<80>;
@@ -158,6 +159,9 @@ pub fn line(status: &Status) -> Line
         Status::NoMemory => begun("lie: no memory\n"),
         Status::ReadFault => begun("lie: read fault\n"),
         Status::WriteFault => begun("lie: write fault\n"),
+        Status::KeeperFault => begun("lie: keeper fault\n"),
         Status::Missing => begun("lie: missing\n"),
+        Status::Taken { .. } => begun("lie: taken\n"),
+        Status::Full => begun("lie: full\n"),
     }
 }

@@ -1,59 +1,73 @@
 // The call that does all that the program does: it performs the command, and tells the status.
-ghost use Rattle.std.specs.Prelude.{◌≡◌, Some};
+ghost use Rattle.std.specs.Prelude.{◌≡◌, Some, IfSome};
 ghost use Rattle.lie_outer.specs.Causes.{Rose};
-ghost use Rattle.lie_app.specs.Words.{AnyCommand, texts, in_words, command_of, HasBudget};
-ghost use Rattle.lie_app.specs.declared.outcome.Outcome.{Outcome as AnOutcome};
+ghost use Rattle.lie_app.specs.Words.{AnyCommand, texts, in_words, command_of, HasBudget, IsReady};
+ghost use Rattle.lie_work.specs.declared.outcome.Outcome.{Outcome as AnOutcome};
 ghost use Rattle.lie_app.specs.Outcomes.{outcome_of};
 ghost use Rattle.lie_app.specs.Outside.{outside};
-ghost use Rattle.lie_app.specs.Run.{IsOutputOf, IsDue, HasCommandCause, IsOutput, HasCause, IsComplete, LeavesOut, LeavesErr};
-ghost use Rattle.lie_app.specs.Work.{IsEnded};
+ghost use Rattle.lie_app.specs.Run.{IsOutputOf, IsDue, HasCommandCause, IsOutput, HasCause, IsComplete, IsStopped};
+ghost use Rattle.lie_app.specs.Run.{LeavesDesk, LeavesWordsDesk, LeavesOut, LeavesErr};
+ghost use Rattle.lie_desk.specs.Kept.{AreHonest};
 
+use crate::on_desk::on_desk;
 use crate::on_file::on_file;
-use crate::outcome::{Failure, Outcome, Refusal};
 use crate::status::{Status, status_of};
 use crate::status_line::line;
 use crate::words::{Command, command_of};
-use lie_outer::{Files, Sink};
+use lie_outer::{Files, Keeper, Sink};
+use lie_work::{Failure, Outcome, Refusal};
 use std::alloc::{AllocError, Global};
 
 // Does what the command says.
-fn obey<F: Files, O: Sink>(
+fn obey<F: Files, O: Sink, K: Keeper>(
     alloc: Global,
     command: &Command<&str>,
     files: &mut F,
     out: &mut O,
+    keeper: &mut K,
 ) -> Outcome
-    requires { HasBudget command.now }
-    ensures cause { HasCommandCause (outside (F.held files.old)) (in_words (λ w. w.now) command.now) result }
+    requires few { HasBudget command.now }
+    requires ready { IsReady (in_words (λ w. w.now) command.now) }
+    ensures cause { HasCommandCause (outside (F.held files.old) (K.held keeper.old)) (in_words (λ w. w.now) command.now) result }
     ensures read_fault { result ≡ Outcome.Failed Failure.ReadFault → Rose (F.fault_count files.old) (F.fault_count files.new) }
     ensures kept { F.held files.new ≡ F.held files.old }
-    ensures due { (due : AnOutcome) → IsDue (outside (F.held files.old)) (in_words (λ w. w.now) command.now) due
-        → IsEnded due result }
+    ensures keeper_fault { result ≡ Outcome.Failed Failure.KeeperFault → Rose (K.fault_count keeper.old) (K.fault_count keeper.new) }
+    ensures honest { IfSome (K.held keeper.old) (λ rows. AreHonest rows → IfSome (K.held keeper.new) AreHonest) }
+    ensures desk { LeavesDesk (Rose (O.starved_count out.old) (O.starved_count out.new))
+        (outside (F.held files.old) (K.held keeper.old)) (K.held keeper.new) (in_words (λ w. w.now) command.now) result }
+    ensures due { (due : AnOutcome) → IsDue (outside (F.held files.old) (K.held keeper.old)) (in_words (λ w. w.now) command.now) due
+        → IsStopped due result }
     ensures out { LeavesOut O.taken O.fault_count O.starved_count out.old out.new
-        (IsOutputOf (outside (F.held files.old)) (in_words (λ w. w.now) command.now)) result }
+        (IsOutputOf (outside (F.held files.old) (K.held keeper.old)) (K.held keeper.new) (in_words (λ w. w.now) command.now)) result }
 {
     match command {
         Command::OnFile(path, asked) => on_file(alloc, path, asked, files, out),
+        Command::OnDesk(asked) => on_desk(alloc, asked, files, out, keeper),
     }
 }
 
 // Does what the words say.
-fn perform<F: Files, O: Sink>(
+fn perform<F: Files, O: Sink, K: Keeper>(
     alloc: Global,
     words: &[String],
     files: &mut F,
     out: &mut O,
+    keeper: &mut K,
 ) -> Outcome
-    ensures cause { HasCause (outside (F.held files.old)) (command_of (texts words.now)) result }
+    ensures cause { HasCause (outside (F.held files.old) (K.held keeper.old)) (command_of (texts words.now)) result }
     ensures read_fault { result ≡ Outcome.Failed Failure.ReadFault → Rose (F.fault_count files.old) (F.fault_count files.new) }
     ensures kept { F.held files.new ≡ F.held files.old }
+    ensures keeper_fault { result ≡ Outcome.Failed Failure.KeeperFault → Rose (K.fault_count keeper.old) (K.fault_count keeper.new) }
+    ensures honest { IfSome (K.held keeper.old) (λ rows. AreHonest rows → IfSome (K.held keeper.new) AreHonest) }
+    ensures desk { LeavesWordsDesk (Rose (O.starved_count out.old) (O.starved_count out.new))
+        (outside (F.held files.old) (K.held keeper.old)) (K.held keeper.new) (command_of (texts words.now)) result }
     ensures due { (c : AnyCommand) (due : AnOutcome) → command_of (texts words.now) ≡ Some c
-        → IsDue (outside (F.held files.old)) c due → IsEnded due result }
+        → IsDue (outside (F.held files.old) (K.held keeper.old)) c due → IsStopped due result }
     ensures out { LeavesOut O.taken O.fault_count O.starved_count out.old out.new
-        (IsOutput (outside (F.held files.old)) (command_of (texts words.now))) result }
+        (IsOutput (outside (F.held files.old) (K.held keeper.old)) (K.held keeper.new) (command_of (texts words.now))) result }
 {
     match command_of(alloc, words) {
-        Ok(Some(command)) => obey(alloc, &command, files, out),
+        Ok(Some(command)) => obey(alloc, &command, files, out, keeper),
         Ok(None) => Outcome::Refused(Refusal::Usage),
         Err(AllocError) => Outcome::Failed(Failure::NoMemory),
     }
@@ -63,7 +77,7 @@ fn perform<F: Files, O: Sink>(
 fn tell<E: Sink>(alloc: Global, status: &Status, err: &mut E)
     ensures { LeavesErr E.taken E.fault_count E.starved_count E.put_count err.old err.new status.now }
 {
-    if *status != Status::Done {
+    if !matches!(status, Status::Done) {
         let line = line(status);
         let _ = err.put(alloc, line.as_str().as_bytes());
     }
@@ -71,19 +85,21 @@ fn tell<E: Sink>(alloc: Global, status: &Status, err: &mut E)
 
 /// Does what the words say, and answers how it went. The words leave out the program's own name; they are `determine` or
 /// `analyse` and the path of a file, or `check`, the path of a file and the text of a field. The report or the line of the check
-/// goes to `out`, and the line of any status but `Done` to `err`. A report has the determining equations of the file's system: the conditions under which a
-/// vector field meets its invariance condition (Olver, "Applications of Lie Groups to Differential Equations", sections 2.3 and 2.4).
-pub fn run<F: Files, O: Sink, E: Sink>(
+/// goes to `out`, and the line of any status but `Done` to `err`. A report of `determine` has the determining equations of the file's
+/// system: the conditions under which a vector field meets its invariance condition (Olver, "Applications of Lie Groups to Differential
+/// Equations", sections 2.3 and 2.4); that of `analyse` has the fields themselves, by a system to which no rule applies.
+pub fn run<F: Files, O: Sink, E: Sink, K: Keeper>(
     alloc: Global,
     words: &[String],
     files: &mut F,
     out: &mut O,
     err: &mut E,
+    keeper: &mut K,
 ) -> Status
     // Usage comes exactly where the words are wrong, unless memory is wanting. Missing, Bad, Not and Past tell what is so of the file:
     // it is not there, it or the field has this first fault, its system has no solved form for this cause, an action of this step of
     // the work is past this limit.
-    ensures cause { HasCause (outside (F.held files.old)) (command_of (texts words.now)) (outcome_of result) }
+    ensures cause { HasCause (outside (F.held files.old) (K.held keeper.old)) (command_of (texts words.now)) (outcome_of result) }
 
     // A fault of reading comes only where the count rose.
     ensures read_fault { result ≡ Status.ReadFault → Rose (F.fault_count files.old) (F.fault_count files.new) }
@@ -91,23 +107,35 @@ pub fn run<F: Files, O: Sink, E: Sink>(
     // The files stay as they were.
     ensures kept { F.held files.new ≡ F.held files.old }
 
+    // A fault of the keeper comes only where the count rose.
+    ensures keeper_fault { result ≡ Status.KeeperFault → Rose (K.fault_count keeper.old) (K.fault_count keeper.new) }
+
+    // Honest rows stay honest: names differ, and each row keeps the canonical text of a file and the report of its symmetries.
+    ensures honest { IfSome (K.held keeper.old) (λ rows. AreHonest rows → IfSome (K.held keeper.new) AreHonest) }
+
+    // Commands on a file, refusals and faults leave the rows; a command of the desk whose output finds no memory may have left them as it
+    // does where it is done. What it does with them is told with its output.
+    ensures desk { LeavesWordsDesk (Rose (O.starved_count out.old) (O.starved_count out.new))
+        (outside (F.held files.old) (K.held keeper.old)) (K.held keeper.new) (command_of (texts words.now)) (outcome_of result) }
+
     // Done has put the report of the file, or the line of the check. A fault of writing comes only where the count rose, and has put
     // a part from the front of it. Any other status has put nothing, unless the output found no memory.
     ensures out { LeavesOut O.taken O.fault_count O.starved_count out.old out.new
-        (IsOutput (outside (F.held files.old)) (command_of (texts words.now))) (outcome_of result) }
+        (IsOutput (outside (F.held files.old) (K.held keeper.old)) (K.held keeper.new) (command_of (texts words.now))) (outcome_of result) }
 
     // Unless memory is wanting or a count rises: Missing where the file is not there; Bad with the first fault where the file, or
     // the field behind a solved form, has one; Not with its cause where there is no solved form; Past with its step where the actions
     // of that step are not within the limits; and Done where nothing of this is so.
-    ensures complete { IsComplete (outside (F.held files.old)) (command_of (texts words.now))
+    ensures complete { IsComplete (outside (F.held files.old) (K.held keeper.old)) (command_of (texts words.now))
         (Rose (F.fault_count files.old) (F.fault_count files.new))
-        (Rose (O.fault_count out.old) (O.fault_count out.new)) (outcome_of result) }
+        (Rose (O.fault_count out.old) (O.fault_count out.new))
+        (Rose (K.fault_count keeper.old) (K.fault_count keeper.new)) (outcome_of result) }
 
     // Done has put nothing here. The line of any other status was put in one call, whatever memory there is: all of it is taken, or
     // a part from its front where a count rose.
     ensures err { LeavesErr E.taken E.fault_count E.starved_count E.put_count err.old err.new result }
 {
-    let outcome = perform(alloc, words, files, out);
+    let outcome = perform(alloc, words, files, out, keeper);
     let status = status_of(outcome);
     tell(alloc, &status, err);
     status

@@ -1,8 +1,8 @@
 -- A text that is made is put, and a refusal is one of the work.
 use Rattle.std.proofs.Common.{sym, subst}
-use Rattle.lie_app.specs.Words.{file_in_words}
-use Rattle.lie_app.specs.Work.{IsWorkOutcome, refused, no_memory}
-use Rattle.lie_app.proofs.Outcomes.{put_is_outcome}
+use Rattle.lie_work.specs.Commands.{file_in_words}
+use Rattle.lie_work.specs.Work.{IsWorkOutcome, refused, no_memory}
+use Rattle.lie_work.proofs.Outcomes.{put_is_outcome}
 use Rattle.lie_app.proofs.on_file.answer.Goals as goal
 
 pub returns-in-Ok-clause-cause : goal.returns-in-Ok-clause-cause

@@ -1,9 +1,8 @@
 -- The commands are added one by one, as the definition does.
 use Rattle.std.proofs.Common.{ap, ap₂, codes, ◌≡◌, ◌∙◌, true}
 use Rattle.std.proofs.lemmas.Result.{IfOk-weaker}
-use Rattle.std.specs.declared.option.Option.{Option}
 use Rattle.clap.specs.Simple.{App, app_of, app_of_fields, new_app, on_top, with_subcommand}
-use Rattle.lie_app.specs.Interface.{bare, subcommand}
+use Rattle.lie_app.specs.Interface.{bare}
 use Rattle.lie_app.proofs.words.interface.Goals as goal
 
 pub returns : goal.returns
@@ -16,4 +15,8 @@ returns c =
     let top = λ (a : App). a.top in
     let one = c.in_ok-subcommand-2.ensures.shape c.in_ok-subcommand.ensures.local ∙ ap₂ with_subcommand lie (ap top c.in_ok-subcommand.ensures.shape) in
     let two = c.in_ok-subcommand-4.ensures.shape c.in_ok-subcommand-3.ensures.local ∙ ap₂ with_subcommand one (ap top c.in_ok-subcommand-3.ensures.shape) in
-    IfOk-weaker c.subcommand-6.result _ _ (λ r added. added.shape c.in_ok-subcommand-5.ensures.local ∙ ap₂ with_subcommand two (ap top c.in_ok-subcommand-5.ensures.shape)) c.subcommand-6.ensures
+    let three = c.in_ok-subcommand-6.ensures.shape c.in_ok-subcommand-5.ensures.local ∙ ap₂ with_subcommand two (ap top c.in_ok-subcommand-5.ensures.shape) in
+    let four = c.in_ok-subcommand-8.ensures.shape c.in_ok-subcommand-7.ensures.local ∙ ap₂ with_subcommand three (ap top c.in_ok-subcommand-7.ensures.shape) in
+    let five = c.in_ok-subcommand-10.ensures.shape c.in_ok-subcommand-9.ensures.local ∙ ap₂ with_subcommand four (ap top c.in_ok-subcommand-9.ensures.shape) in
+    let six = c.in_ok-subcommand-12.ensures.shape c.in_ok-subcommand-11.ensures.local ∙ ap₂ with_subcommand five (ap top c.in_ok-subcommand-11.ensures.shape) in
+    IfOk-weaker c.subcommand-14.result _ _ (λ r added. added.shape c.in_ok-subcommand-13.ensures.local ∙ ap₂ with_subcommand six (ap top c.in_ok-subcommand-13.ensures.shape)) c.subcommand-14.ensures
