@@ -1,6 +1,6 @@
 #!/usr/bin/env bash
 # Runs `analyse` on each example and compares what is printed with its report, byte for byte.
-#     examples/compare.sh PROGRAM
+#     crates/lie_gallery/data/compare.sh PROGRAM
 program="$1"
 here="$(cd "$(dirname "$0")" && pwd)" || exit 1
 found="$(mktemp)" || exit 1
