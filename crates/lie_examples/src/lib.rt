@@ -2,14 +2,22 @@
 #![tactic(auto)]
 
 #[cfg(test)]
+mod analyse_tests;
+#[cfg(test)]
+mod desk_tests;
+#[cfg(test)]
 mod example_files;
 #[cfg(test)]
 mod example_reports;
 #[cfg(test)]
 mod examples_tests;
 #[cfg(test)]
+mod hostile_tests;
+#[cfg(test)]
 mod outcome_tests;
 #[cfg(test)]
 mod path_tests;
 #[cfg(test)]
 mod status_tests;
+#[cfg(test)]
+mod symmetries_reports;

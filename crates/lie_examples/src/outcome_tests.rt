@@ -1,5 +1,6 @@
 // The top call over fakes, with ample memory: the text, the line and the status of each outcome.
-use lie_app::{Source, Status, run};
+use lie_app::{Source, Status, code, run};
+use lie_keep::MemoryKeeper;
 use lie_outer::{Bytes, MemoryFiles, MemorySink, Text};
 use lie_scan::fault::{BadFile, BadKind};
 use lie_solved::NotKind;
@@ -25,15 +26,16 @@ pub fn check(
     let mut files = MemoryFiles::new(content, failing_reads.to_vec(alloc)?);
     let mut out = MemorySink::new(Bytes::of(alloc, b"")?, failing_puts.to_vec(alloc)?);
     let mut err = MemorySink::new(Bytes::of(alloc, b"")?, Vec::new(alloc));
-    let status = run(alloc, &owned, &mut files, &mut out, &mut err);
-    assert_eq!(rt; &status, want.0);
+    let mut keeper = MemoryKeeper::new(Vec::new(alloc), Vec::new(alloc));
+    let status = run(alloc, &owned, &mut files, &mut out, &mut err, &mut keeper);
+    assert_eq!(rt; code(&status), code(want.0));
     assert_eq!(rt; out.taken(), want.1);
     assert_eq!(rt; err.taken(), want.2);
     Ok(())
 }
 
 // A call whose words are wrong.
-fn is_usage(rt: &impl Abort, alloc: Global, words: &[&str]) -> Result<(), Fail> {
+pub fn is_usage(rt: &impl Abort, alloc: Global, words: &[&str]) -> Result<(), Fail> {
     let want = (&Status::Usage, b"".as_slice(), b"lie: usage\n".as_slice());
     check(rt, alloc, words, b"", (&[], &[]), want)
 }

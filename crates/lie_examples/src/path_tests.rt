@@ -43,7 +43,7 @@ pub fn puts(
 }
 
 // A call that tells this line.
-fn tells(
+pub fn tells(
     rt: &impl Abort,
     alloc: Global,
     words: &[&str],

@@ -52,6 +52,12 @@ fn each_other_status_has_its_code_and_line(rt: HostRuntime) {
         b"lie: not solved: LeadInside in equation 16\n",
     );
     told(&rt, past, 5, b"lie: past Coefficient at step 0\n");
+    told(
+        &rt,
+        Status::Spent { steps: 300 },
+        6,
+        b"lie: spent 300 steps\n",
+    );
     told(&rt, Status::NoMemory, 7, b"lie: no memory\n");
     told(&rt, Status::ReadFault, 8, b"lie: read fault\n");
     told(&rt, Status::WriteFault, 9, b"lie: write fault\n");
