@@ -22,7 +22,7 @@ row() {
 
 echo '| Equation | before, ms | after, ms |'
 echo '|---|---|---|'
-for file in "$here"/../examples/*.lie; do
+for file in "$here"/../crates/lie_gallery/data/*.lie; do
     row "$(basename "$file" .lie)" "$file"
 done
 
