@@ -1,4 +1,5 @@
 mod FilteredElements
+mod TakenElements
 mod FreeForms
 mod TidiedLists
 mod SystemEnds

@@ -8,6 +8,7 @@ use lie_bytes::NoMemory;
 use lie_jet::{Der, Space};
 use lie_lin::{LinEq, LinSystem, Unknown, derivative_alone, triples};
 use lie_ring::{PolyFail, Whole};
+use lie_tables::Tables;
 use std::alloc::Global;
 use std::slice;
 use std::test::Fail;
@@ -73,7 +74,7 @@ fn first_of_each(alloc: Global, forms: &[LinEq]) -> Result<Vec<(i128, u32)>, NoM
 fn added(alloc: Global) -> Result<Vec<(i128, u32)>, PolyFail> {
     let mut system = fields(alloc)?;
     let form = unknown(alloc, 2)?;
-    add_form(&mut system, alloc, &form)?;
+    add_form(&mut system, &mut Tables::none(alloc), alloc, &form)?;
     Ok(first_of_each(alloc, system.equations())?)
 }
 
@@ -81,12 +82,18 @@ fn added(alloc: Global) -> Result<Vec<(i128, u32)>, PolyFail> {
 fn exchanged(alloc: Global) -> Result<Vec<(i128, u32)>, PolyFail> {
     let mut system = fields(alloc)?;
     let form = unknown(alloc, 2)?;
-    exchange_forms(&mut system, alloc, 0, slice::from_ref(&form))?;
+    exchange_forms(
+        &mut system,
+        &mut Tables::none(alloc),
+        alloc,
+        0,
+        slice::from_ref(&form),
+    )?;
     Ok(first_of_each(alloc, system.equations())?)
 }
 
 /// The empty form.
-fn none(alloc: Global) -> LinEq
+fn empty_form(alloc: Global) -> LinEq
     ensures { result ≡ no_form }
 {
     LinEq::of_terms(Vec::new(alloc))
@@ -105,14 +112,32 @@ fn six() -> Whole
 /// The general forms after 0 over 6 takes the place of f1.
 fn eliminated(alloc: Global) -> Result<Vec<(i128, u32)>, PolyFail> {
     let mut system = fields(alloc)?;
-    eliminate(&mut system, alloc, 0, 1, &none(alloc), six(), &[])?;
+    eliminate(
+        &mut system,
+        &mut Tables::none(alloc),
+        alloc,
+        0,
+        1,
+        &empty_form(alloc),
+        six(),
+        &[],
+    )?;
     Ok(first_of_each(alloc, system.general())?)
 }
 
 /// The same, divided.
 fn eliminated_divided(alloc: Global) -> Result<Vec<(i128, u32)>, PolyFail> {
     let mut system = fields(alloc)?;
-    eliminate_divided(&mut system, alloc, 0, 1, &none(alloc), six(), &[])?;
+    eliminate_divided(
+        &mut system,
+        &mut Tables::none(alloc),
+        alloc,
+        0,
+        1,
+        &empty_form(alloc),
+        six(),
+        &[],
+    )?;
     Ok(first_of_each(alloc, system.general())?)
 }
 

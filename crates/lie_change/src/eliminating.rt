@@ -6,6 +6,7 @@ ghost use Rattle.lie_steps.specs.Equations.{equation, mentions};
 ghost use Rattle.lie_steps.specs.Replacement.{eliminated, eliminated_divided};
 ghost use Rattle.lie_steps.specs.Tidying.{IsTidySystem};
 ghost use Rattle.lie_normal.specs.WorkCauses.{IsWorkCause};
+ghost use Rattle.lie_tables.specs.Tables.{Follows, IsIndexOf};
 ghost use Rattle.lie_change.specs.Ends.{EliminationMakes, StaysValid};
 ghost use Rattle.lie_change.specs.Lists.{left_by};
 
@@ -14,6 +15,7 @@ use crate::mentioning::any_mentions;
 use crate::replacing::{replaced_equations, replaced_general, unknowns_after};
 use lie_lin::{LinEq, LinSystem, Unknown};
 use lie_ring::{PolyFail, Whole};
+use lie_tables::Tables;
 use std::alloc::Global;
 
 /// The system with a form over a whole number in place of the unknown `number`, tidied: the unknown goes, and the equation at the
@@ -23,6 +25,7 @@ use std::alloc::Global;
 /// was.
 pub fn eliminate(
     system: &mut LinSystem,
+    tables: &mut Tables,
     alloc: Global,
     place: usize,
     number: u32,
@@ -37,6 +40,7 @@ pub fn eliminate(
     requires numbers { system.old.system.next + length fresh.now < 2 ^ 32 }
     requires valid { StaysValid (system.old.space.p + system.old.space.q)
         (eliminated system.old.system place number form.now (unsigned_abs divisor) (map unknown_of fresh.now)) }
+    requires indexed { IsIndexOf tables.old system.old.system.equations }
     ensures tidied { OnOk result (IsTidySystem
         (eliminated system.old.system place number form.now (unsigned_abs divisor) (map unknown_of fresh.now)) system.new.system) }
     ensures space { system.new.space ≡ system.old.space }
@@ -47,14 +51,18 @@ pub fn eliminate(
         (EliminationMakes system.old.system place number form.now (unsigned_abs divisor) (map unknown_of fresh.now)
         (eliminated system.old.system place number form.now (unsigned_abs divisor) (map unknown_of fresh.now)))) }
     ensures kept { OnErr result (system.new ≡ system.old) }
+    ensures indexed { Follows tables.old tables.new system.new.system.equations }
 {
-    eliminate_by(system, alloc, place, number, form, divisor, fresh, false)
+    eliminate_by(
+        system, tables, alloc, place, number, form, divisor, fresh, false,
+    )
 }
 
 /// The same, and the general forms are divided by the greatest common divisor of all their numbers, where one of them has the
 /// unknown.
 pub fn eliminate_divided(
     system: &mut LinSystem,
+    tables: &mut Tables,
     alloc: Global,
     place: usize,
     number: u32,
@@ -69,6 +77,7 @@ pub fn eliminate_divided(
     requires numbers { system.old.system.next + length fresh.now < 2 ^ 32 }
     requires valid { StaysValid (system.old.space.p + system.old.space.q)
         (eliminated_divided system.old.system place number form.now (unsigned_abs divisor) (map unknown_of fresh.now)) }
+    requires indexed { IsIndexOf tables.old system.old.system.equations }
     ensures tidied { OnOk result (IsTidySystem
         (eliminated_divided system.old.system place number form.now (unsigned_abs divisor) (map unknown_of fresh.now)) system.new.system) }
     ensures space { system.new.space ≡ system.old.space }
@@ -79,13 +88,17 @@ pub fn eliminate_divided(
         (EliminationMakes system.old.system place number form.now (unsigned_abs divisor) (map unknown_of fresh.now)
         (eliminated_divided system.old.system place number form.now (unsigned_abs divisor) (map unknown_of fresh.now)))) }
     ensures kept { OnErr result (system.new ≡ system.old) }
+    ensures indexed { Follows tables.old tables.new system.new.system.equations }
 {
-    eliminate_by(system, alloc, place, number, form, divisor, fresh, true)
+    eliminate_by(
+        system, tables, alloc, place, number, form, divisor, fresh, true,
+    )
 }
 
 /// The same, and the general forms are divided or not, where one of them has the unknown.
 fn eliminate_by(
     system: &mut LinSystem,
+    tables: &mut Tables,
     alloc: Global,
     place: usize,
     number: u32,
@@ -101,6 +114,7 @@ fn eliminate_by(
     requires numbers { system.old.system.next + length fresh.now < 2 ^ 32 }
     requires valid { StaysValid (system.old.space.p + system.old.space.q)
         (left_by divided system.old.system place number form.now (unsigned_abs divisor) (map unknown_of fresh.now)) }
+    requires indexed { IsIndexOf tables.old system.old.system.equations }
     ensures tidied { OnOk result (IsTidySystem
         (left_by divided system.old.system place number form.now (unsigned_abs divisor) (map unknown_of fresh.now)) system.new.system) }
     ensures space { system.new.space ≡ system.old.space }
@@ -111,6 +125,7 @@ fn eliminate_by(
         (EliminationMakes system.old.system place number form.now (unsigned_abs divisor) (map unknown_of fresh.now)
         (left_by divided system.old.system place number form.now (unsigned_abs divisor) (map unknown_of fresh.now)))) }
     ensures kept { OnErr result (system.new ≡ system.old) }
+    ensures indexed { Follows tables.old tables.new system.new.system.equations }
 {
     let unknowns = unknowns_after(alloc, system.unknowns(), number, fresh)?;
     let listed = unknowns.as_slice();
@@ -122,6 +137,7 @@ fn eliminate_by(
         let general = replaced_general(alloc, general, listed, number, form, divisor, divided)?;
         return leave_all(
             system,
+            tables,
             alloc,
             number,
             forms.as_slice(),
@@ -130,5 +146,13 @@ fn eliminate_by(
             next,
         );
     }
-    leave_general(system, alloc, number, forms.as_slice(), unknowns, next)
+    leave_general(
+        system,
+        tables,
+        alloc,
+        number,
+        forms.as_slice(),
+        unknowns,
+        next,
+    )
 }

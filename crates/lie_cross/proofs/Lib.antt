@@ -1,4 +1,5 @@
 mod ReducibleForms
+mod OtherEquations
 mod ReducedEquations
 mod AddedForms
 mod PassedVariables

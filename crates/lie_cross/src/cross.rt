@@ -6,6 +6,7 @@ ghost use Rattle.lie_jet.specs.Derivatives.{derivative_of};
 ghost use Rattle.lie_steps.specs.Cross.{least_multiple, crossed, crossed_made, IsCrossedAt, AppliesCross, CrossTries};
 ghost use Rattle.lie_steps.specs.Equations.{equation};
 ghost use Rattle.lie_steps.specs.Rules.{Cross, Tries};
+ghost use Rattle.lie_tables.specs.Tables.{Follows, IsIndexOf};
 ghost use Rattle.lie_normal.specs.WorkCauses.{IsWorkCause};
 ghost use Rattle.lie_change.specs.Tested.{IsTested};
 ghost use Rattle.lie_change.specs.Tried.{TryMakes, IsTried};
@@ -17,6 +18,7 @@ use lie_jet::Der;
 use lie_lin::{LinEq, LinSystem, lead};
 use lie_normal::{combine, derived_between};
 use lie_ring::PolyFail;
+use lie_tables::Tables;
 use std::alloc::Global;
 
 /// Tries the rule cross at two places, the first below the second: where the leads of the equations there are of one unknown, both
@@ -39,10 +41,32 @@ pub fn try_cross(
         (TryMakes Cross system.old.system (record { first = first; second = second }))) }
     ensures kept { OnErr result (system.new ≡ system.old) }
 {
+    let mut tables = Tables::none(alloc);
+    try_cross_with(system, &mut tables, alloc, first, second)
+}
+
+/// The same, and tables of the equations, where they are kept, follow the system.
+pub fn try_cross_with(
+    system: &mut LinSystem,
+    tables: &mut Tables,
+    alloc: Global,
+    first: usize,
+    second: usize,
+) -> Result<bool, PolyFail>
+    requires order { first < second }
+    requires place { second < length system.old.system.equations }
+    requires indexed { IsIndexOf tables.old system.old.system.equations }
+    ensures tried { IfOk result (IsTried Cross (record { first = first; second = second }) system.old system.new) }
+    ensures fits { OnOk result (IsWorkWithin (TryMakes Cross system.old.system (record { first = first; second = second }))) }
+    ensures past { IfErr result (λ fail. IsWorkCause fail
+        (TryMakes Cross system.old.system (record { first = first; second = second }))) }
+    ensures kept { OnErr result (system.new ≡ system.old) }
+    ensures indexed { Follows tables.old tables.new system.new.system.equations }
+{
     system_is_valid(system);
     match crossed_form(system, alloc, first, second)? {
         Some(form) => {
-            add_form(system, alloc, &form)?;
+            add_form(system, tables, alloc, &form)?;
             Ok(true)
         }
         None => Ok(false),

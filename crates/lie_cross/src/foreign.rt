@@ -8,6 +8,7 @@ ghost use Rattle.lie_steps.specs.Equations.{equation};
 ghost use Rattle.lie_steps.specs.Foreign.{IsForeignBy, IsForeignAt, AppliesForeign, ForeignTries};
 ghost use Rattle.lie_steps.specs.NormalForm.{IsNormalForm};
 ghost use Rattle.lie_steps.specs.Rules.{Foreign, Tries};
+ghost use Rattle.lie_tables.specs.Tables.{Follows, IsIndexOf};
 ghost use Rattle.lie_normal.specs.WorkCauses.{IsWorkCause};
 ghost use Rattle.lie_change.specs.Tested.{IsTested};
 ghost use Rattle.lie_change.specs.Tried.{at, TryMakes, IsTried};
@@ -19,6 +20,7 @@ use lie_jet::Der;
 use lie_lin::{LinEq, LinSystem, lead};
 use lie_normal::{depends, derive};
 use lie_ring::PolyFail;
+use lie_tables::Tables;
 use std::alloc::Global;
 
 /// Tries the rule foreign at a place: the equation there is derived by the variables on which its lead does not depend, and the
@@ -33,10 +35,29 @@ pub fn try_foreign(system: &mut LinSystem, alloc: Global, place: usize) -> Resul
     ensures past { IfErr result (λ fail. IsWorkCause fail (TryMakes Foreign system.old.system (at place))) }
     ensures kept { OnErr result (system.new ≡ system.old) }
 {
+    let mut tables = Tables::none(alloc);
+    try_foreign_with(system, &mut tables, alloc, place)
+}
+
+/// The same, and tables of the equations, where they are kept, follow the system.
+pub fn try_foreign_with(
+    system: &mut LinSystem,
+    tables: &mut Tables,
+    alloc: Global,
+    place: usize,
+) -> Result<bool, PolyFail>
+    requires place { place < length system.old.system.equations }
+    requires indexed { IsIndexOf tables.old system.old.system.equations }
+    ensures tried { IfOk result (IsTried Foreign (at place) system.old system.new) }
+    ensures fits { OnOk result (IsWorkWithin (TryMakes Foreign system.old.system (at place))) }
+    ensures past { IfErr result (λ fail. IsWorkCause fail (TryMakes Foreign system.old.system (at place))) }
+    ensures kept { OnErr result (system.new ≡ system.old) }
+    ensures indexed { Follows tables.old tables.new system.new.system.equations }
+{
     system_is_valid(system);
     match foreign_form(system, alloc, place)? {
         Some(form) => {
-            add_form(system, alloc, &form)?;
+            add_form(system, tables, alloc, &form)?;
             Ok(true)
         }
         None => Ok(false),

@@ -5,6 +5,7 @@ ghost use Rattle.lie_lin.specs.Systems.{unknown_of};
 ghost use Rattle.lie_steps.specs.Isolate.{free_degree, freed, SomeDepends, SomeIsFree};
 ghost use Rattle.lie_steps.specs.Isolate.{IsIsolatedBy, IsIsolatedAt, AppliesIsolate, IsolateTries};
 ghost use Rattle.lie_steps.specs.Rules.{Isolate, Tries};
+ghost use Rattle.lie_tables.specs.Tables.{Follows, IsIndexOf};
 ghost use Rattle.lie_normal.specs.WorkCauses.{IsWorkCause};
 ghost use Rattle.lie_change.specs.Tested.{IsTested};
 ghost use Rattle.lie_change.specs.Tried.{at, TryMakes, IsTried};
@@ -17,6 +18,7 @@ use lie_change::add_form;
 use lie_lin::{LinEq, LinSystem, Unknown, primitive};
 use lie_normal::{derive, derived_often};
 use lie_ring::PolyFail;
+use lie_tables::Tables;
 use std::alloc::Global;
 
 /// The greatest exponent that is derived away.
@@ -34,11 +36,30 @@ pub fn try_isolate(system: &mut LinSystem, alloc: Global, place: usize) -> Resul
     ensures past { IfErr result (λ fail. IsWorkCause fail (TryMakes Isolate system.old.system (at place))) }
     ensures kept { OnErr result (system.new ≡ system.old) }
 {
+    let mut tables = Tables::none(alloc);
+    try_isolate_with(system, &mut tables, alloc, place)
+}
+
+/// The same, and tables of the equations, where they are kept, follow the system.
+pub fn try_isolate_with(
+    system: &mut LinSystem,
+    tables: &mut Tables,
+    alloc: Global,
+    place: usize,
+) -> Result<bool, PolyFail>
+    requires place { place < length system.old.system.equations }
+    requires indexed { IsIndexOf tables.old system.old.system.equations }
+    ensures tried { IfOk result (IsTried Isolate (at place) system.old system.new) }
+    ensures fits { OnOk result (IsWorkWithin (TryMakes Isolate system.old.system (at place))) }
+    ensures past { IfErr result (λ fail. IsWorkCause fail (TryMakes Isolate system.old.system (at place))) }
+    ensures kept { OnErr result (system.new ≡ system.old) }
+    ensures indexed { Follows tables.old tables.new system.new.system.equations }
+{
     system_is_valid(system);
     match isolated_form(system, alloc, place)? {
         Some(part) => {
             let form = primitive(alloc, &part)?;
-            add_form(system, alloc, &form)?;
+            add_form(system, tables, alloc, &form)?;
             Ok(true)
         }
         None => Ok(false),

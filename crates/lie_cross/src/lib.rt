@@ -9,12 +9,7 @@ mod normal;
 mod parts;
 mod reduce;
 
-pub use cross::{cross_applies, try_cross};
-pub use foreign::{foreign_applies, try_foreign};
-pub use isolate::{isolate_applies, try_isolate};
-pub use reduce::{reduce_applies, try_reduce};
-
-#[cfg(test)]
-mod rule_tests;
-#[cfg(test)]
-mod test_systems;
+pub use cross::{cross_applies, try_cross, try_cross_with};
+pub use foreign::{foreign_applies, try_foreign, try_foreign_with};
+pub use isolate::{isolate_applies, try_isolate, try_isolate_with};
+pub use reduce::{reduce_applies, reduce_applies_with, try_reduce, try_reduce_with};

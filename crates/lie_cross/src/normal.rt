@@ -33,7 +33,7 @@ pub fn system_is_valid(system: &LinSystem)
 }
 
 /// Whether the lead of an equation divides a derivative.
-fn leads(equation: &LinEq, der: &Der) -> bool
+pub fn leads(equation: &LinEq, der: &Der) -> bool
     ensures { IsTrue result ↔ IsLedBy (derivative_of der.now) equation.now }
 {
     match lead(equation) {

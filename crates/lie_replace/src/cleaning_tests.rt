@@ -3,6 +3,7 @@ use crate::put_cleaned;
 use crate::test_forms::{Triple, are_forms, form, t};
 use lie_bytes::NoMemory;
 use lie_lin::LinEq;
+use lie_tables::Tables;
 use std::alloc::Global;
 use std::test::Fail;
 
@@ -51,8 +52,9 @@ fn cleans(
     wanted: Vec<LinEq>,
 ) -> Result<bool, NoMemory> {
     let mut list = Vec::new(alloc);
-    let _ = put_cleaned(&mut list, alloc, first.as_slice())?;
-    let _ = put_cleaned(&mut list, alloc, added.as_slice())?;
+    let mut tables = Tables::none(alloc);
+    let _ = put_cleaned(&mut list, &mut tables, alloc, first.as_slice())?;
+    let _ = put_cleaned(&mut list, &mut tables, alloc, added.as_slice())?;
     are_forms(alloc, list.as_slice(), wanted.as_slice())
 }
 

@@ -6,6 +6,7 @@ ghost use Rattle.lie_jet.specs.Derivatives.{derivative_of};
 ghost use Rattle.lie_lin.specs.Systems.{unknown_of};
 ghost use Rattle.lie_steps.specs.Rules.{Absent};
 ghost use Rattle.lie_steps.specs.Absent.{IsAbsentAt, AppliesAbsent, AfterAbsent, low_powers};
+ghost use Rattle.lie_tables.specs.Tables.{Follows, IsIndexOf};
 ghost use Rattle.lie_normal.specs.WorkCauses.{IsWorkCause};
 ghost use Rattle.lie_change.specs.Tested.{IsTested};
 ghost use Rattle.lie_change.specs.Tried.{at, IsTried, TryMakes};
@@ -20,6 +21,7 @@ use lie_change::eliminate;
 use lie_jet::{Der, order_of_derivative};
 use lie_lin::{LinSystem, Unknown};
 use lie_ring::{PolyFail, Ring, Whole};
+use lie_tables::Tables;
 use std::alloc::Global;
 
 /// Tries the rule for an equation that says that a derivative of an unknown is 0: the unknown is replaced by the sum of the lower
@@ -35,10 +37,29 @@ pub fn try_absent(system: &mut LinSystem, alloc: Global, place: usize) -> Result
     ensures past { IfErr result (λ fail. IsWorkCause fail (TryMakes Absent system.old.system (at place))) }
     ensures kept { OnErr result (system.new ≡ system.old) }
 {
+    let mut tables = Tables::none(alloc);
+    try_absent_with(system, &mut tables, alloc, place)
+}
+
+/// The same, and tables of the equations, where they are kept, follow the system.
+pub fn try_absent_with(
+    system: &mut LinSystem,
+    tables: &mut Tables,
+    alloc: Global,
+    place: usize,
+) -> Result<bool, PolyFail>
+    requires place { place < length system.old.system.equations }
+    requires indexed { IsIndexOf tables.old system.old.system.equations }
+    ensures tried { IfOk result (IsTried Absent (at place) system.old system.new) }
+    ensures fits { OnOk result (IsWorkWithin (TryMakes Absent system.old.system (at place))) }
+    ensures past { IfErr result (λ fail. IsWorkCause fail (TryMakes Absent system.old.system (at place))) }
+    ensures kept { OnErr result (system.new ≡ system.old) }
+    ensures indexed { Follows tables.old tables.new system.new.system.equations }
+{
     match absent_at(system, place) {
         None => Ok(false),
         Some((unknown, der)) => {
-            replace_by_powers(system, alloc, place, &unknown, &der)?;
+            replace_by_powers(system, tables, alloc, place, &unknown, &der)?;
             Ok(true)
         }
     }
@@ -81,17 +102,20 @@ fn low_powers(alloc: Global, der: &Der) -> Result<Vec<Power>, NoMemory>
 /// Replaces the unknown by the sum of the lower powers times fresh unknowns.
 fn replace_by_powers(
     system: &mut LinSystem,
+    tables: &mut Tables,
     alloc: Global,
     place: usize,
     unknown: &Unknown,
     der: &Der,
 ) -> Result<(), PolyFail>
-    requires { IsAbsentAt system.old.system place (unknown_of unknown.now) (derivative_of der.now) }
+    requires is { IsAbsentAt system.old.system place (unknown_of unknown.now) (derivative_of der.now) }
+    requires indexed { IsIndexOf tables.old system.old.system.equations }
     ensures after { OnOk result (AfterAbsent system.old.system place system.new.system) }
     ensures space { system.new.space ≡ system.old.space }
     ensures fits { OnOk result (IsWorkWithin (TryMakes Absent system.old.system (at place))) }
     ensures past { IfErr result (λ fail. IsWorkCause fail (TryMakes Absent system.old.system (at place))) }
     ensures kept { OnErr result (system.new ≡ system.old) }
+    ensures indexed { Follows tables.old tables.new system.new.system.equations }
 {
     system_is_valid(system);
     let next = system.next();
@@ -100,6 +124,7 @@ fn replace_by_powers(
     let sum = fresh_sum(alloc, next, powers.as_slice())?;
     eliminate(
         system,
+        tables,
         alloc,
         place,
         unknown.number,

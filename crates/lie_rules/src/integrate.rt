@@ -12,6 +12,7 @@ ghost use Rattle.lie_systems.specs.Works.{IsWorkWithin};
 ghost use Rattle.lie_jet.specs.Derivatives.{derivative_of};
 ghost use Rattle.lie_form.specs.FormLimits.{IsFormCause};
 ghost use Rattle.lie_lin.specs.Systems.{unknown_of};
+ghost use Rattle.lie_tables.specs.Tables.{Follows, IsIndexOf};
 ghost use Rattle.lie_normal.specs.WorkCauses.{IsWorkCause};
 ghost use Rattle.lie_steps.specs.Bulks.{absolute_form};
 ghost use Rattle.lie_steps.specs.Equations.{IsGreatest};
@@ -35,6 +36,7 @@ use lie_jet::{Der, order_of_derivative, space_is_small};
 use lie_lin::{LinEq, LinSystem, Unknown, triples};
 use lie_normal::{Coefficient, sum_of_multiples};
 use lie_ring::{PastKind, PolyFail, Ring, Whole, constant_polynomial};
+use lie_tables::Tables;
 use std::alloc::Global;
 
 /// A form that can be integrated: it is solved for a derivative by one variable, and no unknown of the rest, which is not empty,
@@ -64,10 +66,29 @@ pub fn try_integrate(system: &mut LinSystem, alloc: Global, place: usize) -> Res
     ensures past { IfErr result (λ fail. IsWorkCause fail (TryMakes Integrate system.old.system (at place))) }
     ensures kept { OnErr result (system.new ≡ system.old) }
 {
+    let mut tables = Tables::none(alloc);
+    try_integrate_with(system, &mut tables, alloc, place)
+}
+
+/// The same, and tables of the equations, where they are kept, follow the system.
+pub fn try_integrate_with(
+    system: &mut LinSystem,
+    tables: &mut Tables,
+    alloc: Global,
+    place: usize,
+) -> Result<bool, PolyFail>
+    requires place { place < length system.old.system.equations }
+    requires indexed { IsIndexOf tables.old system.old.system.equations }
+    ensures tried { IfOk result (IsTried Integrate (at place) system.old system.new) }
+    ensures fits { OnOk result (IsWorkWithin (TryMakes Integrate system.old.system (at place))) }
+    ensures past { IfErr result (λ fail. IsWorkCause fail (TryMakes Integrate system.old.system (at place))) }
+    ensures kept { OnErr result (system.new ≡ system.old) }
+    ensures indexed { Follows tables.old tables.new system.new.system.equations }
+{
     match integrable_at(system, alloc, place)? {
         None => Ok(false),
         Some(found) => {
-            integrate(system, alloc, place, &found)?;
+            integrate(system, tables, alloc, place, &found)?;
             Ok(true)
         }
     }
@@ -175,20 +196,23 @@ fn only_variable(der: &Der) -> Option<(u8, u8)>
 /// Replaces the unknown for a derivative of which the equation at a place can be integrated.
 fn integrate(
     system: &mut LinSystem,
+    tables: &mut Tables,
     alloc: Global,
     place: usize,
     found: &Integrable,
 ) -> Result<(), PolyFail>
-    requires { IsIntegration system.old.system place found.now }
+    requires is { IsIntegration system.old.system place found.now }
+    requires indexed { IsIndexOf tables.old system.old.system.equations }
     ensures after { OnOk result (AfterIntegrate system.old.system place system.new.system) }
     ensures space { system.new.space ≡ system.old.space }
     ensures fits { OnOk result (IsWorkWithin (TryMakes Integrate system.old.system (at place))) }
     ensures past { IfErr result (λ fail. IsWorkCause fail (TryMakes Integrate system.old.system (at place))) }
     ensures kept { OnErr result (system.new ≡ system.old) }
+    ensures indexed { Follows tables.old tables.new system.new.system.equations }
 {
     system_is_valid(system);
     match unknown_with(system.unknowns(), found.der.unknown) {
-        Some(unknown) => integrate_unknown(system, alloc, place, found, &unknown),
+        Some(unknown) => integrate_unknown(system, tables, alloc, place, found, &unknown),
         None => unreachable!(),
     }
 }
@@ -196,6 +220,7 @@ fn integrate(
 /// Replaces the unknown, for a derivative of which the equation at a place can be integrated.
 fn integrate_unknown(
     system: &mut LinSystem,
+    tables: &mut Tables,
     alloc: Global,
     place: usize,
     found: &Integrable,
@@ -204,11 +229,13 @@ fn integrate_unknown(
     requires integration { IsIntegration system.old.system place found.now }
     requires listed { Contains system.old.system.unknowns (unknown_of unknown.now) }
     requires number { unknown.now.number ≡ found.now.der.unknown }
+    requires indexed { IsIndexOf tables.old system.old.system.equations }
     ensures after { OnOk result (AfterIntegrate system.old.system place system.new.system) }
     ensures space { system.new.space ≡ system.old.space }
     ensures fits { OnOk result (IsWorkWithin (TryMakes Integrate system.old.system (at place))) }
     ensures past { IfErr result (λ fail. IsWorkCause fail (TryMakes Integrate system.old.system (at place))) }
     ensures kept { OnErr result (system.new ≡ system.old) }
+    ensures indexed { Follows tables.old tables.new system.new.system.equations }
 {
     system_is_valid(system);
     let next = system.next();
@@ -219,6 +246,7 @@ fn integrate_unknown(
     let number = unknown.number;
     eliminate_divided(
         system,
+        tables,
         alloc,
         place,
         number,

@@ -5,6 +5,7 @@ ghost use Rattle.lie_systems.specs.Works.{IsWorkWithin};
 ghost use Rattle.lie_jet.specs.Derivatives.{derivative_of};
 ghost use Rattle.lie_steps.specs.Rules.{Lowest};
 ghost use Rattle.lie_steps.specs.Lowest.{IsLowestAt, AppliesLowest, AfterLowest};
+ghost use Rattle.lie_tables.specs.Tables.{Follows, IsIndexOf};
 ghost use Rattle.lie_normal.specs.WorkCauses.{IsWorkCause};
 ghost use Rattle.lie_change.specs.Tested.{IsTested};
 ghost use Rattle.lie_change.specs.Tried.{at, IsTried, TryMakes};
@@ -18,6 +19,7 @@ use lie_jet::Der;
 use lie_lin::{LinSystem, derivative_alone, form_triple_count};
 use lie_normal::{Coefficient, divides};
 use lie_ring::{PolyFail, Polynomial};
+use lie_tables::Tables;
 use std::alloc::Global;
 
 /// Tries the rule for an equation of more than one triple with constant coefficients, in which the lowest derivative divides all
@@ -31,10 +33,29 @@ pub fn try_lowest(system: &mut LinSystem, alloc: Global, place: usize) -> Result
     ensures past { IfErr result (λ fail. IsWorkCause fail (TryMakes Lowest system.old.system (at place))) }
     ensures kept { OnErr result (system.new ≡ system.old) }
 {
+    let mut tables = Tables::none(alloc);
+    try_lowest_with(system, &mut tables, alloc, place)
+}
+
+/// The same, and tables of the equations, where they are kept, follow the system.
+pub fn try_lowest_with(
+    system: &mut LinSystem,
+    tables: &mut Tables,
+    alloc: Global,
+    place: usize,
+) -> Result<bool, PolyFail>
+    requires place { place < length system.old.system.equations }
+    requires indexed { IsIndexOf tables.old system.old.system.equations }
+    ensures tried { IfOk result (IsTried Lowest (at place) system.old system.new) }
+    ensures fits { OnOk result (IsWorkWithin (TryMakes Lowest system.old.system (at place))) }
+    ensures past { IfErr result (λ fail. IsWorkCause fail (TryMakes Lowest system.old.system (at place))) }
+    ensures kept { OnErr result (system.new ≡ system.old) }
+    ensures indexed { Follows tables.old tables.new system.new.system.equations }
+{
     match lowest_at(system, alloc, place)? {
         None => Ok(false),
         Some(der) => {
-            reduce_to_lowest(system, alloc, place, der)?;
+            reduce_to_lowest(system, tables, alloc, place, der)?;
             Ok(true)
         }
     }
@@ -97,18 +118,21 @@ fn is_constant(alloc: Global, poly: &Coefficient) -> Result<bool, NoMemory>
 /// Puts the lowest derivative alone in place of the equation.
 fn reduce_to_lowest(
     system: &mut LinSystem,
+    tables: &mut Tables,
     alloc: Global,
     place: usize,
     der: Der,
 ) -> Result<(), PolyFail>
-    requires { IsLowestAt system.old.system place (derivative_of der) }
+    requires is { IsLowestAt system.old.system place (derivative_of der) }
+    requires indexed { IsIndexOf tables.old system.old.system.equations }
     ensures after { OnOk result (AfterLowest system.old.system place system.new.system) }
     ensures space { system.new.space ≡ system.old.space }
     ensures fits { OnOk result (IsWorkWithin (TryMakes Lowest system.old.system (at place))) }
     ensures past { IfErr result (λ fail. IsWorkCause fail (TryMakes Lowest system.old.system (at place))) }
     ensures kept { OnErr result (system.new ≡ system.old) }
+    ensures indexed { Follows tables.old tables.new system.new.system.equations }
 {
     system_is_valid(system);
     let form = derivative_alone(alloc, der)?;
-    exchange_forms(system, alloc, place, &[form])
+    exchange_forms(system, tables, alloc, place, &[form])
 }

@@ -5,6 +5,7 @@ ghost use Rattle.lie_lin.specs.Systems.{unknown_of};
 ghost use Rattle.lie_steps.specs.Equations.{IsIndependent};
 ghost use Rattle.lie_steps.specs.Rules.{Split};
 ghost use Rattle.lie_steps.specs.Split.{IsSplitBy, IsSplitAt, AppliesSplit, AfterSplit};
+ghost use Rattle.lie_tables.specs.Tables.{Follows, IsIndexOf};
 ghost use Rattle.lie_normal.specs.WorkCauses.{IsWorkCause};
 ghost use Rattle.lie_change.specs.Tested.{IsTested};
 ghost use Rattle.lie_change.specs.Tried.{at, IsTried, TryMakes};
@@ -18,6 +19,7 @@ use lie_jet::space_is_small;
 use lie_lin::{LinEq, LinSystem, Unknown};
 use lie_normal::depends;
 use lie_ring::PolyFail;
+use lie_tables::Tables;
 use std::alloc::Global;
 
 /// Tries the rule for a variable that occurs in a coefficient of an equation and on which none of its unknowns depends: with the
@@ -32,10 +34,29 @@ pub fn try_split(system: &mut LinSystem, alloc: Global, place: usize) -> Result<
     ensures past { IfErr result (λ fail. IsWorkCause fail (TryMakes Split system.old.system (at place))) }
     ensures kept { OnErr result (system.new ≡ system.old) }
 {
+    let mut tables = Tables::none(alloc);
+    try_split_with(system, &mut tables, alloc, place)
+}
+
+/// The same, and tables of the equations, where they are kept, follow the system.
+pub fn try_split_with(
+    system: &mut LinSystem,
+    tables: &mut Tables,
+    alloc: Global,
+    place: usize,
+) -> Result<bool, PolyFail>
+    requires place { place < length system.old.system.equations }
+    requires indexed { IsIndexOf tables.old system.old.system.equations }
+    ensures tried { IfOk result (IsTried Split (at place) system.old system.new) }
+    ensures fits { OnOk result (IsWorkWithin (TryMakes Split system.old.system (at place))) }
+    ensures past { IfErr result (λ fail. IsWorkCause fail (TryMakes Split system.old.system (at place))) }
+    ensures kept { OnErr result (system.new ≡ system.old) }
+    ensures indexed { Follows tables.old tables.new system.new.system.equations }
+{
     match split_variable(system, alloc, place)? {
         None => Ok(false),
         Some(var) => {
-            split_by(system, alloc, place, var)?;
+            split_by(system, tables, alloc, place, var)?;
             Ok(true)
         }
     }
@@ -93,15 +114,23 @@ pub fn is_independent(unknowns: &[Unknown], eq: &LinEq, var: u8) -> bool
 }
 
 /// Puts the coefficients of the powers of a variable in place of the equation.
-fn split_by(system: &mut LinSystem, alloc: Global, place: usize, var: u8) -> Result<(), PolyFail>
-    requires { IsSplitAt system.old.system place var }
+fn split_by(
+    system: &mut LinSystem,
+    tables: &mut Tables,
+    alloc: Global,
+    place: usize,
+    var: u8,
+) -> Result<(), PolyFail>
+    requires is { IsSplitAt system.old.system place var }
+    requires indexed { IsIndexOf tables.old system.old.system.equations }
     ensures after { OnOk result (AfterSplit system.old.system place system.new.system) }
     ensures space { system.new.space ≡ system.old.space }
     ensures fits { OnOk result (IsWorkWithin (TryMakes Split system.old.system (at place))) }
     ensures past { IfErr result (λ fail. IsWorkCause fail (TryMakes Split system.old.system (at place))) }
     ensures kept { OnErr result (system.new ≡ system.old) }
+    ensures indexed { Follows tables.old tables.new system.new.system.equations }
 {
     system_is_valid(system);
     let parts = coefficients_of_powers(alloc, equation_at(system, place), u32::from(var))?;
-    exchange_forms(system, alloc, place, parts.as_slice())
+    exchange_forms(system, tables, alloc, place, parts.as_slice())
 }

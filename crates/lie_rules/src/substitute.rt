@@ -10,6 +10,7 @@ ghost use Rattle.lie_systems.specs.Works.{IsWorkWithin};
 ghost use Rattle.lie_jet.specs.Derivatives.{derivative_of};
 ghost use Rattle.lie_form.specs.FormLimits.{IsFormCause};
 ghost use Rattle.lie_lin.specs.Systems.{unknown_of};
+ghost use Rattle.lie_tables.specs.Tables.{Follows, IsIndexOf};
 ghost use Rattle.lie_normal.specs.WorkCauses.{IsWorkCause};
 ghost use Rattle.lie_steps.specs.Bulks.{absolute_form};
 ghost use Rattle.lie_steps.specs.Equations.{IsGreatest};
@@ -28,6 +29,7 @@ use lie_jet::{Der, order_of_derivative, space_is_small};
 use lie_lin::{LinEq, LinSystem, Unknown};
 use lie_normal::{Coefficient, sum_of_multiples};
 use lie_ring::{PolyFail, Ring, Whole, constant_polynomial};
+use lie_tables::Tables;
 use std::alloc::Global;
 
 /// Tries the rule for an equation that is a number times an unknown plus a rest without it, in which no variable occurs on which
@@ -43,10 +45,29 @@ pub fn try_substitute(system: &mut LinSystem, alloc: Global, place: usize) -> Re
     ensures past { IfErr result (λ fail. IsWorkCause fail (TryMakes Substitute system.old.system (at place))) }
     ensures kept { OnErr result (system.new ≡ system.old) }
 {
+    let mut tables = Tables::none(alloc);
+    try_substitute_with(system, &mut tables, alloc, place)
+}
+
+/// The same, and tables of the equations, where they are kept, follow the system.
+pub fn try_substitute_with(
+    system: &mut LinSystem,
+    tables: &mut Tables,
+    alloc: Global,
+    place: usize,
+) -> Result<bool, PolyFail>
+    requires place { place < length system.old.system.equations }
+    requires indexed { IsIndexOf tables.old system.old.system.equations }
+    ensures tried { IfOk result (IsTried Substitute (at place) system.old system.new) }
+    ensures fits { OnOk result (IsWorkWithin (TryMakes Substitute system.old.system (at place))) }
+    ensures past { IfErr result (λ fail. IsWorkCause fail (TryMakes Substitute system.old.system (at place))) }
+    ensures kept { OnErr result (system.new ≡ system.old) }
+    ensures indexed { Follows tables.old tables.new system.new.system.equations }
+{
     match solved_at(system, alloc, place)? {
         None => Ok(false),
         Some(solved) => {
-            substitute(system, alloc, place, &solved)?;
+            substitute(system, tables, alloc, place, &solved)?;
             Ok(true)
         }
     }
@@ -115,16 +136,19 @@ fn solved_for_unknown(
 /// Replaces the unknown for which the equation at a place is solved.
 fn substitute(
     system: &mut LinSystem,
+    tables: &mut Tables,
     alloc: Global,
     place: usize,
     solved: &Solved,
 ) -> Result<(), PolyFail>
-    requires { IsSubstitution system.old.system place solved.now }
+    requires is { IsSubstitution system.old.system place solved.now }
+    requires indexed { IsIndexOf tables.old system.old.system.equations }
     ensures after { OnOk result (AfterSubstitute system.old.system place system.new.system) }
     ensures space { system.new.space ≡ system.old.space }
     ensures fits { OnOk result (IsWorkWithin (TryMakes Substitute system.old.system (at place))) }
     ensures past { IfErr result (λ fail. IsWorkCause fail (TryMakes Substitute system.old.system (at place))) }
     ensures kept { OnErr result (system.new ≡ system.old) }
+    ensures indexed { Follows tables.old tables.new system.new.system.equations }
 {
     system_is_valid(system);
     let form = solution(alloc, solved)?;
@@ -132,6 +156,7 @@ fn substitute(
     let divisor = solved.number.absolute();
     eliminate_divided(
         system,
+        tables,
         alloc,
         place,
         solved.der.unknown,

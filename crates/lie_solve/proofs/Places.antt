@@ -1,6 +1,6 @@
 -- The order in which places are tried, and where rules can apply.
 use Rattle.std.specs.Prelude.{◌≡◌, ℕ, suc, ◌+◌, ◌<◌, ◌≤◌, ◌⊎◌, length}
-use Rattle.std.proofs.Common.{refl, sym, subst, arith, inl, inr}
+use Rattle.std.proofs.Common.{refl, sym, arith, inl, inr}
 use Rattle.lie_math.specs.LinearSystem.{LinearSystem}
 use Rattle.lie_systems.specs.Works.{Made}
 use Rattle.lie_steps.specs.Equations.{IsPlace}
@@ -80,7 +80,7 @@ before_or_behind r p s q = by (trichotomy (rank r) (rank s)) (earlier_or_later p
 abbrev pub Follows : Rule → LinearSystem → Place → Place → Type 0
 Follows r S p q = (x : Place) → IsPlaceOf r S x → IsEarlier x q → IsEarlier x p ⊎ (x ≡ p)
 
-next_number : (a b : ℕ) → a < suc b → (a < b) ⊎ (a ≡ b)
+pub next_number : (a b : ℕ) → a < suc b → (a < b) ⊎ (a ≡ b)
 next_number a b h = by (trichotomy a b)
   where
     by : (a < b) ⊎ (b < a) ⊎ (a ≡ b) → (a < b) ⊎ (a ≡ b)

@@ -5,17 +5,17 @@ use Rattle.lie_math.specs.LinearForm.{LinearForm}
 use Rattle.lie_math.specs.LinearSystem.{LinearSystem}
 use Rattle.lie_systems.specs.Works.{Made, IsMadeWithin, IsWorkWithin}
 use Rattle.lie_ring.specs.declared.failures.PolyFail.{PolyFail}
-use Rattle.lie_steps.specs.Rules.{Rule, Zero, Lowest, Absent, Split, Substitute, Integrate, Isolate, Reduce, Foreign, Cross, rank, Place}
-use Rattle.lie_steps.specs.Rules.{Applies, After, Makes, Tries, IsBefore, IsEarlier, Next, IsStuck, SearchMakes, NextMakes}
+use Rattle.lie_steps.specs.Rules.{Rule, rank, Place}
+use Rattle.lie_steps.specs.Rules.{Applies, After, Makes, Tries, IsBefore, IsEarlier, Next, SearchMakes, NextMakes}
 use Rattle.lie_steps.specs.Bulks.{system_made}
 use Rattle.lie_steps.proofs.Stepping.{trichotomy, same_rank}
 use Rattle.lie_lin.specs.Systems.{SpaceSystem}
 use Rattle.lie_normal.specs.WorkCauses.{IsWorkCause}
 use Rattle.lie_normal.proofs.WorkSteps.{work_weaken}
-use Rattle.lie_change.specs.Tried.{at, IsTried, TryMakes}
+use Rattle.lie_change.specs.Tried.{at, TryMakes}
 use Rattle.lie_solve.specs.declared.attempts.Attempt.{Attempt}
 use Rattle.lie_solve.specs.declared.attempts.Attempt.TheVariants.{Step, Test}
-use Rattle.lie_solve.specs.Attempts.{IsAttempted, AttemptMakes, IsPassed, IsNextBy, IsFound, FindMakes, IsFoundOrPassed}
+use Rattle.lie_solve.specs.Attempts.{IsAttempted, AttemptMakes, IsPassed, IsFound, FindMakes, IsFoundOrPassed}
 use Rattle.lie_solve.specs.Places.{IsPlaceOf}
 use Rattle.lie_solve.proofs.Places.{applies_inside, tries_inside, after_applies, before_or_behind, Follows, IsNoneBetween, all_before}
 
@@ -42,7 +42,7 @@ reached_first S r h = record { none = none; within = within }
 module _ (S : LinearSystem) (r : Rule) (p q : Place) (h : IsReached S r p)
     (here : (x : Place) → IsPlaceOf r S x → IsEarlier x q → ¬ (Applies r S x))
     (tests : (x : Place) → IsPlaceOf r S x → IsEarlier x q → IsWorkWithin (Tries r S x)) where
-  reached_by : IsReached S r q
+  pub reached_by : IsReached S r q
   reached_by = record { none = none; within = within }
     where
       none : (s : Rule) (x : Place) → IsBefore s x r q → ¬ (Applies s S x)

@@ -1,9 +1,9 @@
 -- Runs step by step: the actions of the steps so far, and what a run comes to.
 use Rattle.std.specs.Prelude.{◌≡◌, ℕ, zero, suc, ◌+◌, ◌<◌, ◌≤◌, ◌⊎◌}
-use Rattle.std.proofs.Common.{refl, sym, ap, subst, ◌∙◌, arith, inl, inr}
+use Rattle.std.proofs.Common.{refl, sym, subst, ◌∙◌, arith, inl, inr}
 use Rattle.lie_math.specs.LinearSystem.{LinearSystem}
 use Rattle.lie_systems.specs.ValidSystems.{IsValid}
-use Rattle.lie_systems.specs.Works.{Limit, Made, IsMadeWithin, IsWorkWithin, IsWorkPast, IsFirstPast}
+use Rattle.lie_systems.specs.Works.{Limit, IsMadeWithin, IsWorkWithin, IsWorkPast, IsFirstPast}
 use Rattle.lie_systems.proofs.WorkLimits.{work_not_within_and_past}
 use Rattle.lie_ring.specs.declared.failures.PolyFail.{PolyFail}
 use Rattle.lie_ring.specs.declared.failures.PolyFail.TheVariants.{Past, NoMemory}

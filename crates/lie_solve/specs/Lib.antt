@@ -1,4 +1,5 @@
 pub mod RuleNames
 pub mod Places
+pub mod Partners
 pub mod Attempts
 pub mod Runs

@@ -2,6 +2,7 @@
 ghost use Rattle.std.specs.Prelude.{◌≡◌, ◌<◌, length, IfOk, IfErr, OnOk, OnErr};
 ghost use Rattle.lie_systems.specs.Works.{IsWorkWithin};
 ghost use Rattle.lie_steps.specs.Rules.{Cross, Tries};
+ghost use Rattle.lie_tables.specs.Tables.{Follows, IsIndexOf};
 ghost use Rattle.lie_normal.specs.WorkCauses.{IsWorkCause};
 ghost use Rattle.lie_change.specs.Tested.{IsTested};
 ghost use Rattle.lie_change.specs.Tried.{at, IsTried, TryMakes};
@@ -9,15 +10,17 @@ ghost use Rattle.lie_solve.specs.Places.{IsPlaceOf};
 ghost use Rattle.lie_solve.specs.RuleNames.{rule_of, place_of};
 
 use lie_cross::{
-    cross_applies, foreign_applies, isolate_applies, reduce_applies, try_cross, try_foreign,
-    try_isolate, try_reduce,
+    cross_applies, foreign_applies, isolate_applies, reduce_applies_with, try_cross_with,
+    try_foreign_with, try_isolate_with, try_reduce_with,
 };
 use lie_lin::LinSystem;
 use lie_ring::PolyFail;
 use lie_rules::{
     absent_applies, integrate_applies, lowest_applies, split_applies, substitute_applies,
-    try_absent, try_integrate, try_lowest, try_split, try_substitute, try_zero, zero_applies,
+    try_absent_with, try_integrate_with, try_lowest_with, try_split_with, try_substitute_with,
+    try_zero_with, zero_applies,
 };
+use lie_tables::Tables;
 use std::alloc::Global;
 
 /// The rules, in the order in which they are tried.
@@ -69,69 +72,96 @@ pub fn try_rule(
     ensures past { IfErr result (λ fail. IsWorkCause fail (TryMakes (rule_of rule) system.old.system (place_of place))) }
     ensures kept { OnErr result (system.new ≡ system.old) }
 {
+    let mut tables = Tables::none(alloc);
+    try_rule_with(system, &mut tables, alloc, rule, place)
+}
+
+/// The same, and tables of the equations, where they are kept, follow the system.
+pub fn try_rule_with(
+    system: &mut LinSystem,
+    tables: &mut Tables,
+    alloc: Global,
+    rule: RuleName,
+    place: Place,
+) -> Result<bool, PolyFail>
+    requires place { IsPlaceOf (rule_of rule) system.old.system (place_of place) }
+    requires indexed { IsIndexOf tables.old system.old.system.equations }
+    ensures tried { IfOk result (IsTried (rule_of rule) (place_of place) system.old system.new) }
+    ensures fits { OnOk result (IsWorkWithin (TryMakes (rule_of rule) system.old.system (place_of place))) }
+    ensures past { IfErr result (λ fail. IsWorkCause fail (TryMakes (rule_of rule) system.old.system (place_of place))) }
+    ensures kept { OnErr result (system.new ≡ system.old) }
+    ensures indexed { Follows tables.old tables.new system.new.system.equations }
+{
     match rule {
-        RuleName::Cross => try_cross(system, alloc, place.first, place.second),
-        _ => try_at_one(system, alloc, rule, place.first),
+        RuleName::Cross => try_cross_with(system, tables, alloc, place.first, place.second),
+        _ => try_at_one(system, tables, alloc, rule, place.first),
     }
 }
 
 /// Tries a rule that looks at one equation.
 fn try_at_one(
     system: &mut LinSystem,
+    tables: &mut Tables,
     alloc: Global,
     rule: RuleName,
     place: usize,
 ) -> Result<bool, PolyFail>
     requires rule { ¬ (rule_of rule ≡ Cross) }
     requires place { place < length system.old.system.equations }
+    requires indexed { IsIndexOf tables.old system.old.system.equations }
     ensures tried { IfOk result (IsTried (rule_of rule) (at place) system.old system.new) }
     ensures fits { OnOk result (IsWorkWithin (TryMakes (rule_of rule) system.old.system (at place))) }
     ensures past { IfErr result (λ fail. IsWorkCause fail (TryMakes (rule_of rule) system.old.system (at place))) }
     ensures kept { OnErr result (system.new ≡ system.old) }
+    ensures indexed { Follows tables.old tables.new system.new.system.equations }
 {
     match rule {
-        RuleName::Zero => try_zero(system, alloc, place),
-        RuleName::Lowest => try_lowest(system, alloc, place),
-        RuleName::Absent => try_absent(system, alloc, place),
-        RuleName::Split => try_split(system, alloc, place),
-        RuleName::Substitute => try_substitute(system, alloc, place),
-        RuleName::Integrate => try_integrate(system, alloc, place),
-        RuleName::Isolate => try_isolate(system, alloc, place),
-        RuleName::Reduce => try_reduce(system, alloc, place),
-        RuleName::Foreign => try_foreign(system, alloc, place),
+        RuleName::Zero => try_zero_with(system, tables, alloc, place),
+        RuleName::Lowest => try_lowest_with(system, tables, alloc, place),
+        RuleName::Absent => try_absent_with(system, tables, alloc, place),
+        RuleName::Split => try_split_with(system, tables, alloc, place),
+        RuleName::Substitute => try_substitute_with(system, tables, alloc, place),
+        RuleName::Integrate => try_integrate_with(system, tables, alloc, place),
+        RuleName::Isolate => try_isolate_with(system, tables, alloc, place),
+        RuleName::Reduce => try_reduce_with(system, tables, alloc, place),
+        RuleName::Foreign => try_foreign_with(system, tables, alloc, place),
         RuleName::Cross => unreachable!(),
     }
 }
 
-/// Whether a rule applies at a place.
+/// Whether a rule applies at a place. Tables of the equations, where they are kept, tell which ones reduce looks at.
 ///
 /// `Past` comes exactly where an action of the test is past a limit.
 pub fn applies(
     system: &LinSystem,
+    tables: &Tables,
     alloc: Global,
     rule: RuleName,
     place: Place,
 ) -> Result<bool, PolyFail>
-    requires { IsPlaceOf (rule_of rule) system.now.system (place_of place) }
+    requires place { IsPlaceOf (rule_of rule) system.now.system (place_of place) }
+    requires indexed { IsIndexOf tables.now system.now.system.equations }
     ensures tested { IfOk result (IsTested (rule_of rule) (place_of place) system.now.system) }
     ensures fits { OnOk result (IsWorkWithin (Tries (rule_of rule) system.now.system (place_of place))) }
     ensures past { IfErr result (λ fail. IsWorkCause fail (Tries (rule_of rule) system.now.system (place_of place))) }
 {
     match rule {
         RuleName::Cross => cross_applies(system, alloc, place.first, place.second),
-        _ => applies_at_one(system, alloc, rule, place.first),
+        _ => applies_at_one(system, tables, alloc, rule, place.first),
     }
 }
 
 /// Whether a rule that looks at one equation applies.
 fn applies_at_one(
     system: &LinSystem,
+    tables: &Tables,
     alloc: Global,
     rule: RuleName,
     place: usize,
 ) -> Result<bool, PolyFail>
     requires rule { ¬ (rule_of rule ≡ Cross) }
     requires place { place < length system.now.system.equations }
+    requires indexed { IsIndexOf tables.now system.now.system.equations }
     ensures tested { IfOk result (IsTested (rule_of rule) (at place) system.now.system) }
     ensures fits { OnOk result (IsWorkWithin (Tries (rule_of rule) system.now.system (at place))) }
     ensures past { IfErr result (λ fail. IsWorkCause fail (Tries (rule_of rule) system.now.system (at place))) }
@@ -144,7 +174,7 @@ fn applies_at_one(
         RuleName::Substitute => Ok(substitute_applies(system, alloc, place)?),
         RuleName::Integrate => Ok(integrate_applies(system, alloc, place)?),
         RuleName::Isolate => isolate_applies(system, alloc, place),
-        RuleName::Reduce => Ok(reduce_applies(system, place)),
+        RuleName::Reduce => Ok(reduce_applies_with(system, tables, place)),
         RuleName::Foreign => foreign_applies(system, alloc, place),
         RuleName::Cross => unreachable!(),
     }

@@ -4,7 +4,7 @@ ghost use Rattle.lie_systems.specs.ValidSystems.{IsValid};
 ghost use Rattle.lie_solve.specs.Runs.{EndsWithin, IsKept, IsStopped, OutcomesDiffer, stop_at};
 
 use crate::attempts::Attempt;
-use crate::searching::{find, next_step};
+use crate::indexed::Indexed;
 use lie_lin::LinSystem;
 use lie_ring::{PastKind, PolyFail};
 use std::alloc::Global;
@@ -38,18 +38,34 @@ pub fn run_steps(system: LinSystem, alloc: Global, budget: u64) -> Result<(LinSy
     ensures kept { IfOk result (λ end. IsKept system end.0) }
     ensures stopped { IfErr result (IsStopped system budget) }
 {
-    let mut system = system;
     system_is_valid(&system);
+    match Indexed::new(alloc, system) {
+        Ok(indexed) => run_indexed(indexed, alloc, budget),
+        Err(_) => Err(Stop::NoMemory),
+    }
+}
+
+/// The same for a system that is kept with its tables.
+fn run_indexed(indexed: Indexed, alloc: Global, budget: u64) -> Result<(LinSystem, u64), Stop>
+    requires budget { budget < 2 ^ 64 - 1 }
+    requires valid { IsValid (indexed.space.p + indexed.space.q) indexed.system }
+    ensures ended { IfOk result (λ end. EndsWithin indexed.system budget end.1 end.0.system) }
+    ensures kept { IfOk result (λ end. IsKept indexed end.0) }
+    ensures stopped { IfErr result (IsStopped indexed budget) }
+{
+    let mut indexed = indexed;
     for made in 0..budget {
-        match next_step(&mut system, alloc) {
+        match indexed.step(alloc) {
             Ok(Some(_)) => {}
-            Ok(None) => return Ok((system, made)),
+            Ok(None) => return Ok((indexed.into_system(), made)),
             Err(fail) => return Err(stopped_at(made + 1, fail)),
         }
     }
-    match find(&mut system, alloc, Attempt::Test) {
-        Ok(Some(_)) => Err(Stop::Spent { system }),
-        Ok(None) => Ok((system, budget)),
+    match indexed.find(alloc, Attempt::Test) {
+        Ok(Some(_)) => Err(Stop::Spent {
+            system: indexed.into_system(),
+        }),
+        Ok(None) => Ok((indexed.into_system(), budget)),
         Err(fail) => Err(stopped_at(budget + 1, fail)),
     }
 }

@@ -38,7 +38,7 @@ fn form(alloc: Global, products: &[(u32, u8, u32)]) -> Result<LinEq, NoMemory> {
 }
 
 /// The system before the run.
-fn opening(alloc: Global) -> Result<LinSystem, NoMemory> {
+pub fn opening(alloc: Global) -> Result<LinSystem, NoMemory> {
     let mut unknowns = Vec::new(alloc);
     unknowns.push(Unknown { number: 1, vars: 1 })?;
     unknowns.push(Unknown { number: 2, vars: 1 })?;

@@ -1,7 +1,8 @@
-use Rattle.std.proofs.Common.{◌++◌, ◌∷◌, [], ◌+◌, ap, ap₂, ◌∙◌}
+use Rattle.std.proofs.Common.{◌++◌, ◌∷◌, [], ◌+◌, ap, ap₂, ◌∙◌, sym}
 use Rattle.lie_math.specs.LinearSystem.{LinearSystem}
 use Rattle.lie_lin.specs.Systems.{with_equations}
 use Rattle.lie_change.proofs.ChangedSystems.{valid_at, valid_changed, fits_changed, past_changed}
+use Rattle.lie_tables.proofs.Following.{follows_same, index_same}
 use Rattle.lie_change.proofs.adding.add_form.Goals as goal
 
 pub set_equations-requires : goal.set_equations-requires
@@ -16,7 +17,7 @@ set_equations-requires c =
     (ap₂ ◌++◌ c.take_equations-equations.ensures.taken c.from_ref.ensures.value)
     (c.general.ensures ∙ ap (λ (Z : LinearSystem). Z.general) c.take_equations-equations.ensures.system)
     c.put_forms-outcome.result (c.args.system.now.space.p + c.args.system.now.space.q) c.take_equations-equations.result.items
-    c.take_equations-equations.ensures.taken c.space.ensures.valid c.requires c.put_forms-outcome.ensures.tidied
+    c.take_equations-equations.ensures.taken c.space.ensures.valid c.requires.valid c.put_forms-outcome.ensures.tidied
     c.put_forms-outcome.ensures.kept)
 
 pub returns-clause-fits : goal.returns-clause-fits
@@ -36,3 +37,12 @@ returns-clause-past c =
     (ap₂ ◌++◌ c.take_equations-equations.ensures.taken c.from_ref.ensures.value)
     (c.general.ensures ∙ ap (λ (Z : LinearSystem). Z.general) c.take_equations-equations.ensures.system)
     c.put_forms-outcome.result c.put_forms-outcome.ensures.past
+
+pub put_forms-outcome-requires-clause-indexed : goal.put_forms-outcome-requires-clause-indexed
+put_forms-outcome-requires-clause-indexed c =
+    index_same c.args.tables.now _ _ (sym c.take_equations-equations.ensures.taken) c.requires.indexed
+
+pub returns-clause-indexed : goal.returns-clause-indexed
+returns-clause-indexed c =
+    follows_same c.args.tables.now c.put_forms-outcome.new.tables _ _ (sym (ap (λ (Z : LinearSystem). Z.equations) c.set_equations.ensures.system))
+    c.put_forms-outcome.ensures.indexed

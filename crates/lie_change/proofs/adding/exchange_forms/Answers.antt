@@ -1,8 +1,9 @@
-use Rattle.std.proofs.Common.{◌++◌, ◌+◌, List, remove, ap, ◌∙◌}
+use Rattle.std.proofs.Common.{◌++◌, ◌+◌, List, remove, ap, ◌∙◌, sym}
 use Rattle.lie_math.specs.LinearForm.{LinearForm}
 use Rattle.lie_math.specs.LinearSystem.{LinearSystem}
 use Rattle.lie_lin.specs.Systems.{with_equations}
 use Rattle.lie_change.proofs.ChangedSystems.{valid_at, valid_changed, fits_changed, past_changed}
+use Rattle.lie_tables.proofs.Following.{follows_same, index_same}
 use Rattle.lie_change.proofs.adding.exchange_forms.Goals as goal
 
 pub set_equations-requires : goal.set_equations-requires
@@ -39,3 +40,12 @@ returns-clause-past c =
     (ap (λ (es : List LinearForm). remove es c.args.place ++ c.args.forms.now) c.take_equations-equations.ensures.taken)
     (c.general.ensures ∙ ap (λ (Z : LinearSystem). Z.general) c.take_equations-equations.ensures.system)
     c.put_in_place-outcome.result c.put_in_place-outcome.ensures.past
+
+pub put_in_place-outcome-requires-clause-indexed : goal.put_in_place-outcome-requires-clause-indexed
+put_in_place-outcome-requires-clause-indexed c =
+    index_same c.args.tables.now _ _ (sym c.take_equations-equations.ensures.taken) c.requires.indexed
+
+pub returns-clause-indexed : goal.returns-clause-indexed
+returns-clause-indexed c =
+    follows_same c.args.tables.now c.put_in_place-outcome.new.tables _ _
+    (sym (ap (λ (Z : LinearSystem). Z.equations) c.set_equations.ensures.system)) c.put_in_place-outcome.ensures.indexed

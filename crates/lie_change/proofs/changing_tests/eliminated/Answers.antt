@@ -16,7 +16,7 @@ eliminate-requires-clause-own c = for_worked (λ (s : SpaceSystem). mentions 1
     (equation s.system 0) ≡ true) c.in_ok-system.system c.in_ok-system.ensures.space c.in_ok-system.ensures.system own_equation
 
 pub eliminate-requires-clause-free : goal.eliminate-requires-clause-free
-eliminate-requires-clause-free c = free_of_none c.none.result c.none.ensures
+eliminate-requires-clause-free c = free_of_none c.empty_form.result c.empty_form.ensures
 
 pub eliminate-requires-clause-numbers : goal.eliminate-requires-clause-numbers
 eliminate-requires-clause-numbers c = for_worked (λ (s : SpaceSystem). s.system.next + 0 < 2 ^ 32) c.in_ok-system.system
@@ -25,7 +25,7 @@ eliminate-requires-clause-numbers c = for_worked (λ (s : SpaceSystem). s.system
 pub eliminate-requires-clause-valid : goal.eliminate-requires-clause-valid
 eliminate-requires-clause-valid c =
     for_worked (λ (s : SpaceSystem). StaysValid (s.space.p + s.space.q)
-    (eliminated s.system 0 1 c.none.result (unsigned_abs c.six.result) [])) c.in_ok-system.system c.in_ok-system.ensures.space
+    (eliminated s.system 0 1 c.empty_form.result (unsigned_abs c.six.result) [])) c.in_ok-system.system c.in_ok-system.ensures.space
     c.in_ok-system.ensures.system
-    (eliminated_valid c.none.result c.none.ensures (unsigned_abs c.six.result)
+    (eliminated_valid c.empty_form.result c.empty_form.ensures (unsigned_abs c.six.result)
     (positive_number c.six.result c.six.ensures))

@@ -16,7 +16,7 @@ eliminate_divided-requires-clause-own c = for_worked (λ (s : SpaceSystem). ment
     (equation s.system 0) ≡ true) c.in_ok-system.system c.in_ok-system.ensures.space c.in_ok-system.ensures.system own_equation
 
 pub eliminate_divided-requires-clause-free : goal.eliminate_divided-requires-clause-free
-eliminate_divided-requires-clause-free c = free_of_none c.none.result c.none.ensures
+eliminate_divided-requires-clause-free c = free_of_none c.empty_form.result c.empty_form.ensures
 
 pub eliminate_divided-requires-clause-numbers : goal.eliminate_divided-requires-clause-numbers
 eliminate_divided-requires-clause-numbers c = for_worked (λ (s : SpaceSystem). s.system.next + 0 < 2 ^ 32) c.in_ok-system.system
@@ -25,7 +25,7 @@ eliminate_divided-requires-clause-numbers c = for_worked (λ (s : SpaceSystem). 
 pub eliminate_divided-requires-clause-valid : goal.eliminate_divided-requires-clause-valid
 eliminate_divided-requires-clause-valid c =
     for_worked (λ (s : SpaceSystem). StaysValid (s.space.p + s.space.q)
-    (eliminated_divided s.system 0 1 c.none.result (unsigned_abs c.six.result) [])) c.in_ok-system.system c.in_ok-system.ensures.space
+    (eliminated_divided s.system 0 1 c.empty_form.result (unsigned_abs c.six.result) [])) c.in_ok-system.system c.in_ok-system.ensures.space
     c.in_ok-system.ensures.system
-    (divided_valid c.none.result c.none.ensures (unsigned_abs c.six.result)
+    (divided_valid c.empty_form.result c.empty_form.ensures (unsigned_abs c.six.result)
     (positive_number c.six.result c.six.ensures))

@@ -1,4 +1,4 @@
-use Rattle.std.proofs.Common.{◌++◌, ◌+◌, length, map, sym, unsigned_abs}
+use Rattle.std.proofs.Common.{refl, ◌++◌, ◌+◌, length, map, sym, unsigned_abs}
 use Rattle.std.proofs.lemmas.Result.{err_from_is_err_and}
 use Rattle.lie_lin.specs.Systems.{system_of, unknown_of}
 use Rattle.lie_change.specs.Lists.{unmentioned, left_by}
@@ -199,3 +199,25 @@ returns-clause-past c =
     c.as_slice-2.ensures.value c.in_ok-forms.ensures.replaced c.args.divided c.requires.place c.requires.own c.next.result
     c.next.ensures c.general-general.result.now c.general-general.ensures
     (sym c.if-any_mentions.ensures)) c.leave_general.ensures.past
+
+-- ---- the tables
+pub returns-in_err-unknowns-clause-indexed : goal.returns-in_err-unknowns-clause-indexed
+returns-in_err-unknowns-clause-indexed c = (refl, c.requires.indexed)
+
+pub returns-in_err-forms-clause-indexed : goal.returns-in_err-forms-clause-indexed
+returns-in_err-forms-clause-indexed c = (refl, c.requires.indexed)
+
+pub returns-in_err-general-clause-indexed : goal.returns-in_err-general-clause-indexed
+returns-in_err-general-clause-indexed c = (refl, c.requires.indexed)
+
+pub leave_all-requires-clause-indexed : goal.leave_all-requires-clause-indexed
+leave_all-requires-clause-indexed c = c.requires.indexed
+
+pub leave_general-requires-clause-indexed : goal.leave_general-requires-clause-indexed
+leave_general-requires-clause-indexed c = c.requires.indexed
+
+pub returns-then-any_mentions-clause-indexed : goal.returns-then-any_mentions-clause-indexed
+returns-then-any_mentions-clause-indexed c = c.leave_all.ensures.indexed
+
+pub returns-clause-indexed : goal.returns-clause-indexed
+returns-clause-indexed c = c.leave_general.ensures.indexed

@@ -1,9 +1,10 @@
-use Rattle.std.proofs.Common.{◌++◌, ◌+◌, List, [], map, ap, ◌∙◌}
+use Rattle.std.proofs.Common.{◌++◌, ◌+◌, List, [], map, ap, ◌∙◌, sym}
 use Rattle.lie_math.specs.LinearForm.{LinearForm}
 use Rattle.lie_math.specs.LinearSystem.{LinearSystem}
 use Rattle.lie_lin.specs.Systems.{system_of, unknown_of, with_equations, with_unknowns}
 use Rattle.lie_change.specs.Lists.{unmentioned}
 use Rattle.lie_change.proofs.ChangedSystems.{valid_at, left_valid, emptied_valid, changed_cause}
+use Rattle.lie_tables.proofs.Following.{follows_same, index_same}
 use Rattle.lie_change.proofs.leaving.leave_general.Goals as goal
 
 pub set_unknowns-requires : goal.set_unknowns-requires
@@ -45,3 +46,17 @@ returns-in-Err-clause-past c =
     ++ c.args.forms.now) c.general.result.now c.put_for_unknown.new.equations.items
     (ap (λ (es : List LinearForm). unmentioned c.args.number es ++ c.args.forms.now) c.take_equations-equations.ensures.taken)
     (c.general.ensures ∙ ap (λ (Z : LinearSystem). Z.general) c.take_equations-equations.ensures.system) c.in-Err.fail c.in-Err.ensures.past
+
+pub put_for_unknown-requires-clause-indexed : goal.put_for_unknown-requires-clause-indexed
+put_for_unknown-requires-clause-indexed c =
+    index_same c.args.tables.now _ _ (sym c.take_equations-equations.ensures.taken) c.requires.indexed
+
+pub returns-in-Err-clause-indexed : goal.returns-in-Err-clause-indexed
+returns-in-Err-clause-indexed c =
+    follows_same c.args.tables.now c.put_for_unknown.new.tables _ _
+    (sym (ap (λ (Z : LinearSystem). Z.equations) c.set_equations-in-Err.ensures.system)) c.put_for_unknown.ensures.indexed
+
+pub returns-in-Ok-clause-indexed : goal.returns-in-Ok-clause-indexed
+returns-in-Ok-clause-indexed c =
+    follows_same c.args.tables.now c.put_for_unknown.new.tables _ _
+    (sym (ap (λ (Z : LinearSystem). Z.equations) c.set_equations.ensures.system)) c.put_for_unknown.ensures.indexed

@@ -8,6 +8,7 @@ use Rattle.lie_steps.specs.Tidying.{IsTidied}
 use Rattle.lie_change.proofs.MovedPlaces.{found_again}
 use Rattle.lie_change.proofs.SystemEnds.{tidied_within, tidied_cause}
 use Rattle.lie_change.proofs.TidiedLists.{tidied_exchanged}
+use Rattle.lie_tables.proofs.Following.{follows_on, follows_same}
 use Rattle.lie_change.proofs.putting.put_in_place.Goals as goal
 
 pub count_without_place-requires : goal.count_without_place-requires
@@ -60,3 +61,17 @@ returns-in-Err-clause-past c =
     (subst (λ (es : List LinearForm). IsWorkCause c.in-Err.fail
     (λ b. b ≡ Triples (triple_count_of_all (remove es c.moved_place-place.result) + triple_count_of_all c.args.general.now)))
     c.as_slice-2.ensures.value c.in-Err.ensures.past)
+
+pub returns-in-Ok-clause-indexed : goal.returns-in-Ok-clause-indexed
+returns-in-Ok-clause-indexed c =
+    let m = (found_again c.in_ok-places.places.items c.as_slice.result.now c.put_cleaned.new.equations.items c.args.equations.now.items
+    c.args.place c.moved_place-place.result no_form
+    c.in_ok-places.ensures.filled c.in_ok-places.ensures.back c.requires.place c.as_slice.ensures.value c.moved_place-place.ensures).0 in
+    follows_on c.args.tables.now c.put_cleaned.new.tables c.remove-in-Ok.new.self c.put_cleaned.new.equations.items c.remove.new.self.items
+    c.put_cleaned.ensures.indexed (follows_same c.put_cleaned.new.tables c.remove-in-Ok.new.self _ _ (sym c.remove.ensures.items)
+    (c.remove-in-Ok.ensures c.put_cleaned.new.equations.items (c.put_cleaned.ensures.indexed).1 m))
+
+pub returns-in-Err-clause-indexed : goal.returns-in-Err-clause-indexed
+returns-in-Err-clause-indexed c =
+    follows_on c.args.tables.now c.put_cleaned.new.tables c.take_back.new.tables c.put_cleaned.new.equations.items
+    c.take_back.new.equations.items c.put_cleaned.ensures.indexed c.take_back.ensures.indexed

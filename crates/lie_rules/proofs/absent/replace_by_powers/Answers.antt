@@ -26,7 +26,7 @@ returns-in_err-fresh-clause-past c =
     (elimination_front c.args.system.now.system c.args.place c.args.unknown.now.number V V (pos 1) vs vs refl refl refl Absent
     (at c.args.place) (fresh_made vs)
     (absent_step (c.args.system.now.space.p + c.args.system.now.space.q) c.args.system.now.system c.system_is_valid.ensures.valid
-    c.args.place (unknown_of c.args.unknown.now) (derivative_of c.args.der.now) c.requires) _
+    c.args.place (unknown_of c.args.unknown.now) (derivative_of c.args.der.now) c.requires.is) _
     (subst (λ (bs : List Made). IsWorkCause c.in_err-fresh.field-0.0 (Contains bs))
     (ap₂ (λ n cs. fresh_made (fresh_unknowns n (unknown_of c.args.unknown.now) cs)) c.next-next.ensures
     (c.as_slice.ensures.value ∙ c.in_ok-powers.ensures.powers)) c.in_err-fresh.ensures.past))
@@ -34,7 +34,7 @@ returns-in_err-fresh-clause-past c =
 pub eliminate-requires-clause-own : goal.eliminate-requires-clause-own
 eliminate-requires-clause-own c =
     absent_occurs (c.args.system.now.space.p + c.args.system.now.space.q) c.args.system.now.system c.system_is_valid.ensures.valid
-    c.args.place (unknown_of c.args.unknown.now) (derivative_of c.args.der.now) c.requires
+    c.args.place (unknown_of c.args.unknown.now) (derivative_of c.args.der.now) c.requires.is
 
 pub eliminate-requires-clause-free : goal.eliminate-requires-clause-free
 eliminate-requires-clause-free c =
@@ -42,7 +42,7 @@ eliminate-requires-clause-free c =
     (sym (c.in_ok-sum.ensures ∙ ap₂ fresh_sum c.next-next.ensures (c.as_slice-2.ensures.value ∙ c.in_ok-powers.ensures.powers)))
     (sum_mentions c.args.unknown.now.number c.args.system.now.system.next (low_powers (derivative_of c.args.der.now).counts)
     (absent_below (c.args.system.now.space.p + c.args.system.now.space.q) c.args.system.now.system c.system_is_valid.ensures.valid
-    c.args.place (unknown_of c.args.unknown.now) (derivative_of c.args.der.now) c.requires))
+    c.args.place (unknown_of c.args.unknown.now) (derivative_of c.args.der.now) c.requires.is))
 
 pub eliminate-requires-clause-numbers : goal.eliminate-requires-clause-numbers
 eliminate-requires-clause-numbers c =
@@ -66,7 +66,7 @@ eliminate-requires-clause-valid c =
     ∙ ap₂ (λ n cs. fresh_unknowns n (unknown_of c.args.unknown.now) cs) c.next-next.ensures
     (c.as_slice.ensures.value ∙ c.in_ok-powers.ensures.powers)) (c.args.system.now.space.p + c.args.system.now.space.q)
     (absent_stays (c.args.system.now.space.p + c.args.system.now.space.q) c.args.system.now.system c.system_is_valid.ensures.valid
-    c.args.place (unknown_of c.args.unknown.now) (derivative_of c.args.der.now) c.requires)
+    c.args.place (unknown_of c.args.unknown.now) (derivative_of c.args.der.now) c.requires.is)
 
 pub returns-clause-fits : goal.returns-clause-fits
 returns-clause-fits c =
@@ -81,7 +81,7 @@ returns-clause-fits c =
     Absent (at c.args.place) (fresh_made (absent_unknowns c.args.system.now.system (unknown_of c.args.unknown.now)
     (derivative_of c.args.der.now))) (absent_step
     (c.args.system.now.space.p + c.args.system.now.space.q) c.args.system.now.system c.system_is_valid.ensures.valid c.args.place
-    (unknown_of c.args.unknown.now) (derivative_of c.args.der.now) c.requires)
+    (unknown_of c.args.unknown.now) (derivative_of c.args.der.now) c.requires.is)
     (subst (λ (bs : List Made). IsWorkWithin (Contains bs))
     (ap₂ (λ n cs. fresh_made (fresh_unknowns n (unknown_of c.args.unknown.now) cs)) c.next-next.ensures
     (c.as_slice.ensures.value ∙ c.in_ok-powers.ensures.powers)) c.in_ok-fresh.ensures.fits)) c.eliminate.ensures.fits
@@ -99,4 +99,4 @@ returns-clause-past c =
     Absent (at c.args.place) (fresh_made (absent_unknowns c.args.system.now.system (unknown_of c.args.unknown.now)
     (derivative_of c.args.der.now))) (absent_step
     (c.args.system.now.space.p + c.args.system.now.space.q) c.args.system.now.system c.system_is_valid.ensures.valid c.args.place
-    (unknown_of c.args.unknown.now) (derivative_of c.args.der.now) c.requires)) c.eliminate.ensures.past
+    (unknown_of c.args.unknown.now) (derivative_of c.args.der.now) c.requires.is)) c.eliminate.ensures.past

@@ -16,7 +16,7 @@ use Rattle.lie_rules.proofs.lowest.reduce_to_lowest.Goals as goal
 
 pub exchange_forms-requires-clause-apart : goal.exchange_forms-requires-clause-apart
 exchange_forms-requires-clause-apart c =
-    λ k. lowest_apart c.args.system.now.system c.args.place (derivative_of c.args.der) c.requires
+    λ k. lowest_apart c.args.system.now.system c.args.place (derivative_of c.args.der) c.requires.is
     (subst (λ (F : LinearForm). Contains (primitive F ∷ []) (equation c.args.system.now.system c.args.place)) c.in_ok-form.ensures k)
 
 pub exchange_forms-requires-clause-valid : goal.exchange_forms-requires-clause-valid
@@ -24,7 +24,7 @@ exchange_forms-requires-clause-valid c =
     subst (λ (F : LinearForm). StaysValid (c.args.system.now.space.p + c.args.system.now.space.q)
     (with_equations_at c.args.system.now.system c.args.place (F ∷ []))) (sym c.in_ok-form.ensures)
     (lowest_stays (c.args.system.now.space.p + c.args.system.now.space.q) c.args.system.now.system c.system_is_valid.ensures.valid
-    c.args.place (derivative_of c.args.der) c.requires)
+    c.args.place (derivative_of c.args.der) c.requires.is)
 
 pub returns-clause-fits : goal.returns-clause-fits
 returns-clause-fits c =
@@ -32,7 +32,7 @@ returns-clause-fits c =
     on_ok_weaker c.exchange_forms.result
     (λ w. try_within Lowest c.args.system.now.system (at c.args.place) X []
     (lowest_step (c.args.system.now.space.p + c.args.system.now.space.q) c.args.system.now.system c.system_is_valid.ensures.valid
-    c.args.place (derivative_of c.args.der) c.requires)
+    c.args.place (derivative_of c.args.der) c.requires.is)
     (end_within X [] nothing_within (subst (λ (F : LinearForm). IsWorkWithin
     (EndMakes (with_equations_at c.args.system.now.system c.args.place (F ∷ [])))) c.in_ok-form.ensures w)))
     c.exchange_forms.ensures.fits

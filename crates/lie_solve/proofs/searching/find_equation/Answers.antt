@@ -1,5 +1,6 @@
 use Rattle.std.proofs.Common.{refl, ◌+◌}
 use Rattle.std.proofs.lemmas.Result.{err_from_is_err_and}
+use Rattle.lie_tables.proofs.Following.{follows_on}
 use Rattle.lie_change.specs.Tried.{at}
 use Rattle.lie_solve.specs.RuleNames.{rule_of}
 use Rattle.lie_solve.proofs.Places.{equation_place, next_equation}
@@ -7,7 +8,7 @@ use Rattle.lie_solve.proofs.Searches.{reached_first, turn_inside, turn_found, tu
 use Rattle.lie_solve.proofs.searching.find_equation.Goals as goal
 
 pub loop-first-init : goal.loop-first-init
-loop-first-init c = record { same = refl; reached = reached_first c.args.system.now.system (rule_of c.args.rule) c.requires.passed }
+loop-first-init c = record { same = refl; indexed = (refl, c.requires.indexed); reached = reached_first c.args.system.now.system (rule_of c.args.rule) c.requires.passed }
 
 pub returns-in_err-found-clause-past : goal.returns-in_err-found-clause-past
 returns-in_err-found-clause-past c =
@@ -41,7 +42,7 @@ loop-first-preserved c =
     (at (i + 1)) c.attempt_at.new.system c.in_ok-found.found c.if-found.false c.loop-first.invariant.reached
     (next_equation r c.loop-first.system.system i (i + 1) refl c.requires.rule) c.in_ok-found.ensures.attempted c.in_ok-found.ensures.fits
     in
-    record { same = n.0; reached = n.1 }
+    record { same = n.0; indexed = follows_on c.args.tables.now c.loop-first.tables c.attempt_at.new.tables _ _ c.loop-first.invariant.indexed c.attempt_at.ensures.indexed; reached = n.1 }
 
 pub returns-clause-found : goal.returns-clause-found
 returns-clause-found c =
