@@ -35,9 +35,8 @@ pub fn counts(names: &[u8], text: &[u8]) -> [u8; 8] {
     counts
 }
 
-/// The monomial of letters.
-fn monomial(alloc: Global, names: &[u8], letters: &[u8]) -> Result<Mono, NoMemory> {
-    let exponents = counts(names, letters);
+/// The monomial with these exponents.
+fn monomial(alloc: Global, exponents: [u8; 8]) -> Result<Mono, NoMemory> {
     let mut pairs = Vec::new(alloc);
     for variable in 0..8u32 {
         let exponent = exponents[variable as usize];
@@ -51,7 +50,7 @@ fn monomial(alloc: Global, names: &[u8], letters: &[u8]) -> Result<Mono, NoMemor
 /// The triple of a word such as `3*xx*u*f1_u`.
 pub fn triple(alloc: Global, names: &[u8], word: &[u8]) -> Result<(Der, Mono, Whole), NoMemory> {
     let mut number: i128 = 1;
-    let mut letters: &[u8] = b"";
+    let mut exponents = [0u8; 8];
     let mut der = Der {
         unknown: 0,
         counts: [0; 8],
@@ -70,9 +69,14 @@ pub fn triple(alloc: Global, names: &[u8], word: &[u8]) -> Result<(Der, Mono, Wh
                 }
             }
             [b'0'..=b'9', ..] => number = number.saturating_mul(number_of(factor)),
-            _ => letters = factor,
+            _ => {
+                let more = counts(names, factor);
+                for variable in 0..8 {
+                    exponents[variable] = exponents[variable].saturating_add(more[variable]);
+                }
+            }
         }
     }
     let number = Whole::new(number).ok_or(NoMemory)?;
-    Ok((der, monomial(alloc, names, letters)?, number))
+    Ok((der, monomial(alloc, exponents)?, number))
 }

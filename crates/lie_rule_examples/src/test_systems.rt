@@ -1,12 +1,13 @@
 // What a rule leaves of systems over two to four variables that are given as texts.
 use lie_bytes::NoMemory;
+use lie_cross::{try_cross, try_foreign, try_isolate, try_reduce};
 use lie_lin::LinSystem;
-use lie_linear_texts::{SystemTexts, is_same, system};
+use lie_linear_texts::{SystemTexts, is_same, of_texts, system};
 use lie_ring::{PastKind, PolyFail};
 use lie_rules::{try_absent, try_integrate, try_lowest, try_split, try_substitute, try_zero};
 use std::alloc::Global;
 
-/// A rule.
+/// A rule; that of two equations with the second place.
 #[derive(Clone, Copy)]
 pub enum Rule {
     Zero,
@@ -15,6 +16,10 @@ pub enum Rule {
     Split,
     Substitute,
     Integrate,
+    Isolate,
+    Reduce,
+    Foreign,
+    Cross(usize),
 }
 
 /// Tries a rule at a place of a system; false where there is no such place.
@@ -34,6 +39,13 @@ fn tried(
         Rule::Split => try_split(system, alloc, place),
         Rule::Substitute => try_substitute(system, alloc, place),
         Rule::Integrate => try_integrate(system, alloc, place),
+        Rule::Isolate => try_isolate(system, alloc, place),
+        Rule::Reduce => try_reduce(system, alloc, place),
+        Rule::Foreign => try_foreign(system, alloc, place),
+        Rule::Cross(second) if place < second && second < system.equations().len() => {
+            try_cross(system, alloc, place, second)
+        }
+        Rule::Cross(_) => Ok(false),
     }
 }
 
@@ -69,4 +81,26 @@ pub fn is_past(
         }
         _ => Ok(false),
     }
+}
+
+// General forms that are 0, for four variables.
+const ZEROS: &[u8] = b";;;";
+
+/// Whether a rule at a place leaves these equations, or does not apply and leaves them as they are.
+pub fn leaves_equations(
+    alloc: Global,
+    names: &[u8],
+    rule: Rule,
+    place: usize,
+    unknowns: &[u8],
+    before: &[u8],
+    after: Option<&[u8]>,
+) -> Result<bool, NoMemory> {
+    let general = match names.len() {
+        count @ 1..=4 => &ZEROS[..count - 1],
+        _ => ZEROS,
+    };
+    let first = of_texts(unknowns, before, general, 9);
+    let last = of_texts(unknowns, after.unwrap_or(before), general, 9);
+    leaves(alloc, names, rule, place, &first, after.map(|_| &last))
 }
