@@ -22,7 +22,7 @@ use Rattle.lie_readback.specs.Groups.{drafted}
 use Rattle.lie_readback.specs.SystemDrafts.{Draft, read_named, read_lines}
 use Rattle.lie_readback.specs.WellFormed.{AreNamed, size, IsWellFormed as IsWellFormedSystem}
 use Rattle.lie_readback.proofs.Drafted.{bind_some, some_is, guard_some, named_good, lines_good}
-use Rattle.lie_readback.proofs.Reports.{system_told}
+use Rattle.lie_readback.proofs.ToldSystems.{system_told}
 use Rattle.lie_read_report.specs.FieldTerms.{parts_from, written_field}
 use Rattle.lie_read_report.specs.ReadReports.{IsTextOfNone, IsReportOf, HaveOneReport}
 use Rattle.lie_read_report.specs.ReportDrafts as written

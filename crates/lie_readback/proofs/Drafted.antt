@@ -19,11 +19,10 @@ use Rattle.lie_readback.specs.declared.unread.Unread.TheVariants.{Other, NoMemor
 use Rattle.lie_readback.specs.DraftViews.{terms_seen}
 use Rattle.lie_readback.specs.Groups.{written_terms, drafted}
 use Rattle.lie_readback.specs.Sums.{read_sum}
-use Rattle.lie_readback.specs.SystemDrafts.{Draft, names_in, are_names, is_count, read_named, free_lines, behind_free, unknowns_in, variables_in, read_component, named_size, read_forms, read_system, read_lines, read_text}
+use Rattle.lie_readback.specs.SystemDrafts.{Draft, names_in, are_names, is_count, read_named, free_lines, behind_free, unknowns_in, variables_in, read_component, named_size, read_forms, read_system, read_lines}
 use Rattle.lie_readback.specs.WellFormed.{AreNamed, AreNumberedFrom, IsReportedForm, IsWellFormed, IsWellDrafted}
 use Rattle.lie_readback.proofs.LineTexts.{names_are_letters}
-use Rattle.lie_readback.proofs.Reports.{text_told, system_is}
-use Rattle.lie_readback.specs.ReadReports.{IsTextOfNone, IsReportOf}
+use Rattle.lie_readback.proofs.ToldSystems.{system_is}
 use Rattle.lie_math.specs.LinearForm.{LinearForm}
 
 pub terms_none : (xs : List (Vec Term)) → length xs ≡ 0 → map terms_seen xs ≡ []
@@ -96,30 +95,6 @@ lines_good [] D h = cc
 lines_good (a ∷ []) D h = cc
 lines_good (a ∷ b ∷ []) D h = cc
 lines_good (a ∷ vars ∷ deps ∷ body) D h = bind_some (read_named vars deps) (λ N. read_system N body) D h (λ N is more. system_good N body D (named_good vars deps N is) more)
-
-pub well_drafted : (text : List ℕ) (D : Draft) → read_text text ≡ Some D → IsWellDrafted D
-unfolding read_text
-well_drafted text D h = lines_good (slice_split (λ b. b == 10) text) D h
-
--- ---- texts
-pub text_fails : {X : Type 0} (view : X → Named × LinearSystem) (bytes : List ℕ) (e : Unread) → Fails e (read_text bytes) → Finds view IsWellFormed (λ s. report_text (determining s.0 s.1)) bytes (Err e)
-text_fails view bytes Other h = λ s w told. no_some (drafted s) (sym (text_told s w bytes told) ∙ h)
-  where
-    no_some : (D : Draft) → ◌≡◌ {A = Option Draft} (Some D) None → ⊥
-    no_some D e = cc
-text_fails view bytes NoMemory h = tt
-
-pub text_finds : {X : Type 0} (view : X → Named × LinearSystem) (bytes : List ℕ) (D : Draft) (r : Result X Unread) → read_text bytes ≡ Some D → Finds view IsWellFormed drafted D r
-    → Finds view IsWellFormed (λ s. report_text (determining s.0 s.1)) bytes r
-text_finds view bytes D (Ok x) is h = λ s w told. h s w (some_is (drafted s) D (sym (text_told s w bytes told) ∙ is))
-text_finds view bytes D (Err Other) is h = λ s w told. h s w (some_is (drafted s) D (sym (text_told s w bytes told) ∙ is))
-text_finds view bytes D (Err NoMemory) is h = tt
-
--- ---- answers
-pub answer_more : (bytes : List ℕ) (t : Named × LinearSystem) → IsWellFormed t → ((s : Named × LinearSystem) → IsWellFormed s → report_text (determining s.0 s.1) ≡ bytes → t ≡ s) → (o : Option kept.Report)
-    → MatchOption o (¬ (report_text (determining t.0 t.1) ≡ bytes)) (λ r. (report_of r ≡ determining t.0 t.1) × (report_text (report_of r) ≡ bytes)) → MatchOption o (IsTextOfNone bytes) (λ r. IsReportOf r bytes)
-answer_more bytes t well found None h = λ s w told. h (ap (λ (x : Named × LinearSystem). report_text (determining x.0 x.1)) (found s w told) ∙ told)
-answer_more bytes t well found (Some r) h = record { system = t; well_formed = well; is = h.0; text = h.1 }
 
 -- ---- parts of a system that is written
 pub part_err : {X : Type 0} (view : X → Named × LinearSystem) (D : Draft) (part : Named × LinearSystem → List LinearForm) (gs : List (List PrintedTerm)) → ((s : Named × LinearSystem) → IsWellFormed s → Every IsReportedForm (part s))

@@ -8,7 +8,7 @@ mod LineTexts
 pub mod SystemTexts
 pub mod Found
 pub mod Grouping
-pub mod Reports
+pub mod ToldSystems
 mod CountSteps
 pub mod DraftSteps
 pub mod Drafted

@@ -19,7 +19,7 @@ use Rattle.lie_report.specs.Terms.{form_terms}
 use Rattle.lie_readback.specs.Readings.{◌>>=◌, read_each}
 use Rattle.lie_readback.specs.Sums.{read_sum}
 use Rattle.lie_readback.specs.Groups.{written_term, written_terms, drafted}
-use Rattle.lie_readback.specs.SystemDrafts.{Draft, names_in, are_names, is_count, read_named, is_free, free_lines, behind_free, unknowns_in, read_component, read_forms, read_system, read_lines, read_text}
+use Rattle.lie_readback.specs.SystemDrafts.{Draft, names_in, are_names, is_count, read_named, is_free, free_lines, behind_free, unknowns_in, read_component, read_forms, read_system, read_lines}
 use Rattle.lie_readback.specs.WellFormed.{AreNamed, size, IsReportedForm, AreNumberedFrom, IsReportedSystem, IsWellFormed}
 use Rattle.lie_scan.proofs.Blanks.{and_true}
 use Rattle.lie_readback.proofs.LineTexts.{vars_back, deps_back, letters_are_names, unknowns_back, free_front, free_back}
@@ -297,13 +297,3 @@ module _ (N : Named) (T : LinearSystem) (h : IsWellFormed (N, T)) where
       let r : List ℕ = remaining_line (length T.equations) in
       ap (λ o. o >>= λ M. read_system M (system_lines N T ++ e ∷ n ∷ [])) (named_back N h.0)
       ∙ ap (read_system N) (grouped F G E r e n) ∙ system_with T.general r e n ((h.1).valid).components goods
-
-  pub report_back : read_text (report_text (determining N T)) ≡ Some (drafted (N, T))
-  unfolding read_text report_text
-  report_back =
-      let head = head_lines (codes "lie determining 1") N in
-      let lines = every-append (AreFrom 32) head (system_lines N T ++ codes "end" ∷ []) (head_from N h.0 (codes "lie determining 1") (from_test (codes "lie determining 1") refl))
-      (every-append (AreFrom 32) (system_lines N T) (codes "end" ∷ []) system_from (from_test (codes "end") refl, tt)) in
-      ap read_lines (split_lines (head ++ (system_lines N T ++ codes "end" ∷ [])) lines)
-      ∙ ap (λ ls. read_lines (codes "lie determining 1" ∷ vars_line ∷ deps_line ∷ ls)) (append_assoc (system_lines N T) (codes "end" ∷ []) ([] ∷ []))
-      ∙ lines_back (codes "lie determining 1") (codes "end") []

@@ -6,4 +6,3 @@ pub mod SystemDrafts
 pub mod DraftViews
 pub mod Groups
 pub mod WellFormed
-pub mod ReadReports

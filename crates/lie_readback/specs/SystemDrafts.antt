@@ -97,6 +97,3 @@ read_lines [] = None
 read_lines (first ∷ []) = None
 read_lines (first ∷ vars ∷ []) = None
 read_lines (first ∷ vars ∷ deps ∷ body) = read_named vars deps >>= λ N. read_system N body
-
-unfoldable pub read_text : List ℕ → Option Draft
-read_text text = read_lines (slice_split (λ b. b == 10) text)

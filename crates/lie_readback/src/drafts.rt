@@ -7,10 +7,9 @@ ghost use Rattle.lie_readback.specs.Readings.{Reads, read_each};
 ghost use Rattle.lie_readback.specs.Sums.{read_sum};
 ghost use Rattle.lie_readback.specs.SystemDrafts.{names_in, are_names, is_count, read_named, is_free, free_lines, behind_free};
 ghost use Rattle.lie_readback.specs.SystemDrafts.{stand_in, variables_in, unknowns_in, read_component, read_forms, read_system};
-ghost use Rattle.lie_readback.specs.SystemDrafts.{read_lines, read_text};
+ghost use Rattle.lie_readback.specs.SystemDrafts.{read_lines};
 ghost use Rattle.lie_readback.specs.DraftViews.{terms_seen, named_seen, draft_seen};
 
-use crate::parts::lines_of;
 use crate::sums::read_sum;
 use crate::unread::Unread;
 use lie_jet::Space;
@@ -259,13 +258,4 @@ pub fn read_lines(alloc: Global, lines: &[&[u8]]) -> Result<Draft, Unread>
         }
         _ => Err(Unread::Other),
     }
-}
-
-/// The system of a report of determining equations, as it is written.
-#[tactic(auto, unfolding(crate::specs::SystemDrafts::read_text))]
-pub fn read_draft(alloc: Global, text: &[u8]) -> Result<Draft, Unread>
-    ensures { Reads draft_seen result (read_text text.now) }
-{
-    let lines = lines_of(alloc, text)?;
-    read_lines(alloc, lines.as_slice())
 }

@@ -1,16 +1,10 @@
-//! Reading reports back from their texts.
+//! Systems with names read back from the lines of their reports.
 #![tactic(auto)]
 
-pub mod determining;
 pub mod drafts;
 mod factors;
 pub mod forms;
-mod laws;
 pub mod parts;
 pub mod sums;
+pub mod systems;
 pub mod unread;
-
-pub use laws::texts_have_one_report;
-
-#[cfg(test)]
-mod tests;

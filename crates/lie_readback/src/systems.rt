@@ -1,22 +1,18 @@
-// Reports of determining equations.
-ghost use Rattle.std.specs.Prelude.{◌≡◌, IfOk, MatchOption};
-ghost use Rattle.lie_report.specs.Report.{report_text};
-ghost use Rattle.lie_report.specs.Reports.{report_of, determining};
+// The systems that drafts tell.
+ghost use Rattle.std.specs.Prelude.{◌≡◌, IfOk};
 ghost use Rattle.lie_lin.specs.Systems.{system_of};
 ghost use Rattle.lie_system.specs.Written.{AreDistinctLetters};
 ghost use Rattle.lie_readback.specs.Readings.{Finds};
 ghost use Rattle.lie_readback.specs.DraftViews.{draft_seen};
 ghost use Rattle.lie_readback.specs.Groups.{drafted, system_seen, IsMade};
 ghost use Rattle.lie_readback.specs.WellFormed.{IsWellFormed, IsWellDrafted};
-ghost use Rattle.lie_readback.specs.ReadReports.{IsTextOfNone, IsReportOf};
 
-use crate::drafts::{Draft, Names, read_draft};
+use crate::drafts::{Draft, Names};
 use crate::forms::forms_of;
 use crate::unread::Unread;
 use lie_bytes::{NoMemory, Text};
 use lie_jet::Space;
 use lie_lin::{LinEq, LinSystem, Unknown};
-use lie_report::{Report, write_report};
 use std::alloc::Global;
 
 /// The text of letters. An error where there is no memory.
@@ -66,47 +62,4 @@ pub fn system_of(alloc: Global, draft: Draft) -> Result<(Text, LinSystem), Unrea
     let system = valid_system(alloc, space, unknowns, equations, general, next)?;
     let names = text_of(alloc, letters)?;
     Ok((names, system))
-}
-
-// The system of a report of determining equations, with its names, whatever the spacing of the report.
-fn system_in(alloc: Global, text: &[u8]) -> Result<(Text, LinSystem), Unread>
-    ensures value { Finds system_seen IsWellFormed
-        (λ s. report_text (determining s.0 s.1)) text.now result }
-    ensures kept { IfOk result (λ s. IsWellFormed (system_seen s)) }
-{
-    let draft = read_draft(alloc, text)?;
-    system_of(alloc, draft)
-}
-
-// The report of a system, where it has a text.
-fn with_text(
-    alloc: Global,
-    names: Text,
-    system: LinSystem,
-    bytes: &[u8],
-) -> Result<Option<Report>, NoMemory>
-    ensures { IfOk result (λ made. MatchOption made
-        (¬ (report_text (determining (record { space = system.space; names = names }) system.system) ≡ bytes.now))
-        (λ report. (report_of report ≡ determining (record { space = system.space; names = names }) system.system)
-        × (report_text (report_of report) ≡ bytes.now))) }
-{
-    let report = Report::Determining { names, system };
-    let text = write_report(alloc, &report)?;
-    if text.as_slice() == bytes {
-        Ok(Some(report))
-    } else {
-        Ok(None)
-    }
-}
-
-/// The report of determining equations whose text these bytes are, the unknowns numbered from 1; None exactly where they are the text
-/// of none. An error where there is no memory.
-pub fn read_determining(alloc: Global, bytes: &[u8]) -> Result<Option<Report>, NoMemory>
-    ensures { IfOk result (λ made. MatchOption made (IsTextOfNone bytes.now) (λ report. IsReportOf report bytes.now)) }
-{
-    match system_in(alloc, bytes) {
-        Ok((names, system)) => with_text(alloc, names, system, bytes),
-        Err(Unread::Other) => Ok(None),
-        Err(Unread::NoMemory) => Err(NoMemory),
-    }
 }

@@ -1,4 +1,4 @@
--- One text has one report.
+-- A system is told by its draft.
 use Rattle.std.specs.Prelude.{ℕ, ◌≡◌, ◌+◌, List, [], ◌∷◌, length, map, Option, Some, refl}
 use Rattle.std.proofs.Common.{sym, ap, ap₂, ◌∙◌, subst, arith}
 use Rattle.lie_math.specs.LinearForm.{LinearForm}
@@ -8,13 +8,10 @@ use Rattle.lie_math.specs.Counts.{Derivative}
 use Rattle.lie_systems.specs.Triples.{Triple, triples}
 use Rattle.lie_systems.proofs.Triples.{triples_tell}
 use Rattle.lie_print.specs.Printing.{PrintedTerm, LastFactor, of_unknown, base_vector}
-use Rattle.lie_report.specs.Reports.{Named, determining}
-use Rattle.lie_report.specs.Report.{report_text}
+use Rattle.lie_report.specs.Reports.{Named}
 use Rattle.lie_readback.specs.Groups.{written_term, written_terms, drafted}
-use Rattle.lie_readback.specs.SystemDrafts.{Draft, read_text}
+use Rattle.lie_readback.specs.SystemDrafts.{Draft}
 use Rattle.lie_readback.specs.WellFormed.{IsWellFormed}
-use Rattle.lie_readback.specs.ReadReports.{HaveOneReport}
-use Rattle.lie_readback.proofs.SystemTexts.{report_back}
 
 derivative_told : (d e : Derivative) → ◌≡◌ {A = Option LastFactor} (Some (of_unknown d)) (Some (of_unknown e)) → d ≡ e
 derivative_told d e h = ap told h
@@ -60,12 +57,3 @@ system_told s t h k e =
     let n : s.1.next ≡ t.1.next = (h.1).next ∙ ap (λ (us : List Unknown). length us + 1) u ∙ sym (k.1).next in
     let same = system_is s.1 t.1 u (forms_told s.1.equations t.1.equations (ap (λ (D : Draft). D.equations) e)) (forms_told s.1.general t.1.general (ap (λ (D : Draft). D.general) e)) n in
     ap₂ (λ (N : Named) (T : LinearSystem). (N, T)) (ap (λ (D : Draft). D.named) e) same
-
-pub text_told : (s : Named × LinearSystem) → IsWellFormed s → (bytes : List ℕ) → report_text (determining s.0 s.1) ≡ bytes → read_text bytes ≡ Some (drafted s)
-text_told s h bytes e = ap read_text (sym e) ∙ report_back s.0 s.1 h
-
-some_told : (D E : Draft) → Some D ≡ Some E → D ≡ E
-some_told D E h = cc
-
-pub one_report : HaveOneReport
-one_report s t h k e = system_told s t h k (some_told (drafted s) (drafted t) (sym (report_back s.0 s.1 h) ∙ ap read_text e ∙ report_back t.0 t.1 k))
