@@ -7,3 +7,6 @@ pub mod Rows
 pub mod Keeper
 pub mod Plans
 pub mod Memory
+pub mod Link
+pub mod MemoryLink
+pub mod HostLink
