@@ -1,0 +1,9 @@
+-- The values so far are the first names.
+use Rattle.std.specs.Prelude.{map}
+use Rattle.std.proofs.Common.{◌≡◌, take}
+use Rattle.serde_json.specs.Data.{string}
+use Rattle.serde_json.specs.View.{view}
+use Rattle.lie_http.proofs.names.names_value.Given as goal
+
+abbrev pub invariant-loop-name : goal.invariant-loop-name
+invariant-loop-name l = map view l.values.items ≡ map string (take l.name-index l.names)
