@@ -4,5 +4,6 @@ pub mod FileRefusals
 pub mod DueReports
 pub mod DueChecks
 pub mod DueSymmetries
+pub mod DueDegrees
 pub mod Outcomes
 pub mod SomeDue

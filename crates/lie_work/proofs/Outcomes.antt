@@ -10,10 +10,11 @@ use Rattle.lie_work.specs.declared.outcome.Refusal.{Refusal}
 use Rattle.lie_work.specs.declared.outcome.Refusal.TheVariants.{Bad}
 use Rattle.lie_work.specs.declared.outcome.Failure.TheVariants.{ReadFault, WriteFault}
 use Rattle.lie_work.specs.declared.source.Source.TheVariants.{File}
-use Rattle.lie_work.specs.declared.command.FileCommand.TheVariants.{Determine, Check, Analyse}
+use Rattle.lie_work.specs.declared.command.FileCommand.TheVariants.{Determine, Check, Analyse, Degree}
 use Rattle.lie_work.specs.Analyse as analyses
 use Rattle.lie_work.specs.Causes.{put_outcome}
 use Rattle.lie_work.specs.Checking as checks
+use Rattle.lie_work.specs.Degree as degrees
 use Rattle.lie_work.specs.Determine as determines
 use Rattle.lie_work.specs.Outcomes.{IsRefusalOr, untold}
 use Rattle.lie_work.specs.declared.outcome.NoText.{NoText}
@@ -22,6 +23,7 @@ use Rattle.lie_work.specs.SolvedFile.{IsFileRefusal, bad_file}
 use Rattle.lie_work.specs.Commands.{AnyFileCommand}
 use Rattle.lie_work.specs.Work.{IsWorkRefusal, IsWorkDue, IsAnswer, IsAnswered, IsEnded, IsWorkOutcome, done, refused, no_memory, write_fault}
 use Rattle.lie_work.proofs.DueChecks.{file_of_check}
+use Rattle.lie_work.proofs.DueDegrees.{file_of_degree}
 use Rattle.lie_work.proofs.DueReports.{file_of_report}
 use Rattle.lie_work.proofs.DueSymmetries.{file_of_symmetries}
 
@@ -30,11 +32,13 @@ pub file_refused : (c : AnyFileCommand) (bytes : List ℕ) (refusal : Refusal) �
 file_refused Determine bytes refusal h = determines.no_file refusal h
 file_refused (Check field) bytes refusal h = checks.no_file refusal h
 file_refused (Analyse budget) bytes refusal h = analyses.no_file refusal h
+file_refused (Degree d) bytes refusal h = degrees.no_file refusal h
 
 pub file_answered : (c : AnyFileCommand) (bytes : List ℕ) (found : Refusal) (due : Outcome) → IsFileRefusal bytes found → IsWorkDue c bytes due → IsAnswer due (Refused found)
 file_answered Determine bytes found due h d = file_of_report bytes found due h d
 file_answered (Check field) bytes found due h d = file_of_check bytes field found due h d
 file_answered (Analyse budget) bytes found due h d = file_of_symmetries bytes budget found due h d
+file_answered (Degree most) bytes found due h d = file_of_degree bytes most found due h d
 
 pub file_is_work : (c : AnyFileCommand) (bytes : List ℕ) (none : NoText) → IsRefusalOr (IsFileRefusal bytes) none → IsRefusalOr (IsWorkRefusal c bytes) none
 file_is_work c bytes (texts.Refused refusal) h = file_refused c bytes refusal h

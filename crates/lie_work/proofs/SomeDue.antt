@@ -35,12 +35,15 @@ use Rattle.lie_work.specs.declared.outcome.Outcome.{Outcome}
 use Rattle.lie_work.specs.declared.outcome.Outcome.TheVariants.{Done, Refused}
 use Rattle.lie_work.specs.declared.outcome.Refusal.{Refusal}
 use Rattle.lie_work.specs.declared.outcome.Refusal.TheVariants.{Bad, Not, Past, Spent, Missing}
-use Rattle.lie_work.specs.declared.command.FileCommand.TheVariants.{Determine, Check, Analyse}
+use Rattle.lie_work.specs.declared.command.FileCommand.TheVariants.{Determine, Check, Analyse, Degree}
 use Rattle.lie_analysis.specs.Laws.{SomeAnswerIsDue}
+use Rattle.lie_degree.specs.Laws as degree_laws
 use Rattle.lie_work.specs.Analyse as analyses
 use Rattle.lie_work.specs.Analyse.{IsAnalyseDue}
 use Rattle.lie_work.specs.Checking as checks
 use Rattle.lie_work.specs.Checking.{IsField, IsCheckDue}
+use Rattle.lie_work.specs.Degree as degrees
+use Rattle.lie_work.specs.Degree.{IsDegreeDue}
 use Rattle.lie_work.specs.Determine as reports
 use Rattle.lie_work.specs.Determine.{IsDetermineDue}
 use Rattle.lie_work.specs.SolvedFile.{IsSolvedFile, IsFileRefusal, bad_file, unsolved}
@@ -176,8 +179,16 @@ some_symmetries answer bytes budget none = some_file bytes (λ r h. none (Refuse
     (λ spent. none (Refused (Spent budget)) (analyses.due_spent (record { system = s; rules = rs; solved = is; spent = spent })))
     (λ step first. none (Refused (Past step Terms)) (analyses.due_past step Terms (record { system = s; rules = rs; solved = is; first = first }))))
 
+-- ---- degree
+some_basis : degree_laws.SomeAnswerIsDue → (bytes : List ℕ) (d : ℕ) → ((due : Outcome) → ¬ (IsDegreeDue bytes d due)) → ⊥
+some_basis answer bytes d none = some_file bytes (λ r h. none (Refused r) (degrees.due_file r h)) (λ s rs is.
+    answer s.space rs d
+    (λ within. none Done (degrees.due_report (record { system = s; rules = rs; solved = is; within = within })))
+    (λ step first. none (Refused (Past step Terms)) (degrees.due_past step Terms (record { system = s; rules = rs; solved = is; first = first }))))
+
 -- ---- commands
-pub some_work_is_due : ActionsAreNotWithinAndPast → OpeningIsNotWithinAndPast → SomeAnswerIsDue → (c : AnyFileCommand) (bytes : List ℕ) → ((due : Outcome) → ¬ (IsWorkDue c bytes due)) → ⊥
-some_work_is_due actions opening answer Determine bytes none = some_report opening bytes none
-some_work_is_due actions opening answer (Check text) bytes none = some_line actions bytes text none
-some_work_is_due actions opening answer (Analyse budget) bytes none = some_symmetries answer bytes budget none
+pub some_work_is_due : ActionsAreNotWithinAndPast → OpeningIsNotWithinAndPast → SomeAnswerIsDue → degree_laws.SomeAnswerIsDue → (c : AnyFileCommand) (bytes : List ℕ) → ((due : Outcome) → ¬ (IsWorkDue c bytes due)) → ⊥
+some_work_is_due actions opening answer basis Determine bytes none = some_report opening bytes none
+some_work_is_due actions opening answer basis (Check text) bytes none = some_line actions bytes text none
+some_work_is_due actions opening answer basis (Analyse budget) bytes none = some_symmetries answer bytes budget none
+some_work_is_due actions opening answer basis (Degree d) bytes none = some_basis basis bytes d none

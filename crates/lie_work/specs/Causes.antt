@@ -8,6 +8,8 @@ use Rattle.lie_solved.specs.declared.solved.SolveFormFail.{SolveFormFail}
 use Rattle.lie_solved.specs.declared.solved.SolveFormFail.TheVariants as solves
 use Rattle.lie_analysis.specs.declared.analysis.Unfinished.{Unfinished}
 use Rattle.lie_analysis.specs.declared.analysis.Unfinished.TheVariants as unfinished
+use Rattle.lie_degree.specs.declared.bases.DegreeStop.{DegreeStop}
+use Rattle.lie_degree.specs.declared.bases.DegreeStop.TheVariants as stops
 use Rattle.lie_outer.specs.declared.sink.SinkFail.TheVariants as sinks
 use Rattle.lie_outer.specs.declared.sink.SinkFail.{SinkFail}
 use Rattle.std.specs.declared.result.Result.{Result}
@@ -40,6 +42,11 @@ abbrev pub not_analysed : ℕ → Unfinished → NoText
 not_analysed budget (unfinished.Past step what) = Refused (Past step what)
 not_analysed budget unfinished.Spent = Refused (Spent budget)
 not_analysed budget unfinished.NoMemory = NoMemory
+
+-- a system without a basis up to a degree
+abbrev pub no_basis : DegreeStop → NoText
+no_basis (stops.Past step what) = Refused (Past step what)
+no_basis stops.NoMemory = NoMemory
 
 -- a put of the whole output
 abbrev pub put_outcome : {T : Type 0} → Result T SinkFail → Outcome

@@ -6,5 +6,6 @@ pub mod SolvedFile
 pub mod Determine
 pub mod Checking
 pub mod Analyse
+pub mod Degree
 pub mod Work
 pub mod Laws

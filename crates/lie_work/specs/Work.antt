@@ -9,9 +9,10 @@ use Rattle.lie_work.specs.declared.outcome.Refusal.{Refusal}
 use Rattle.lie_work.specs.declared.outcome.Refusal.TheVariants.{Past}
 use Rattle.lie_work.specs.declared.outcome.Failure.TheVariants.{NoMemory, ReadFault, WriteFault}
 use Rattle.lie_work.specs.declared.outcome.NoText.{NoText}
-use Rattle.lie_work.specs.declared.command.FileCommand.TheVariants.{Determine, Check, Analyse}
+use Rattle.lie_work.specs.declared.command.FileCommand.TheVariants.{Determine, Check, Analyse, Degree}
 use Rattle.lie_work.specs.Analyse.{IsSymmetriesReport, IsAnalyseRefusal, IsAnalyseDue}
 use Rattle.lie_work.specs.Checking.{IsCheck, IsCheckRefusal, IsCheckDue}
+use Rattle.lie_work.specs.Degree.{IsDegreeReport, IsDegreeRefusal, IsDegreeDue}
 use Rattle.lie_work.specs.Determine.{IsReport, IsReportRefusal, IsDetermineDue}
 use Rattle.lie_work.specs.Outcomes.{untold}
 use Rattle.lie_work.specs.Commands.{AnyFileCommand}
@@ -21,18 +22,21 @@ abbrev pub IsTextOf : AnyFileCommand → List ℕ → List ℕ → Type 0
 IsTextOf Determine bytes text = IsReport bytes text
 IsTextOf (Check field) bytes text = IsCheck bytes field text
 IsTextOf (Analyse budget) bytes text = IsSymmetriesReport bytes budget text
+IsTextOf (Degree d) bytes text = IsDegreeReport bytes d text
 
 -- why it makes no text of the bytes
 abbrev pub IsWorkRefusal : AnyFileCommand → List ℕ → Refusal → Type 0
 IsWorkRefusal Determine bytes refusal = IsReportRefusal bytes refusal
 IsWorkRefusal (Check field) bytes refusal = IsCheckRefusal bytes field refusal
 IsWorkRefusal (Analyse budget) bytes refusal = IsAnalyseRefusal bytes budget refusal
+IsWorkRefusal (Degree d) bytes refusal = IsDegreeRefusal bytes d refusal
 
 -- which outcome is due for the bytes
 abbrev pub IsWorkDue : AnyFileCommand → List ℕ → Outcome → Type 0
 IsWorkDue Determine bytes due = IsDetermineDue bytes due
 IsWorkDue (Check field) bytes due = IsCheckDue bytes field due
 IsWorkDue (Analyse budget) bytes due = IsAnalyseDue bytes budget due
+IsWorkDue (Degree d) bytes due = IsDegreeDue bytes d due
 
 -- ---- the answer where an outcome is due
 -- it is that outcome; of several limits that a step is past, any is told

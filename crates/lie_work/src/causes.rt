@@ -1,10 +1,11 @@
 // What the failures of the work are told as.
 ghost use Rattle.std.specs.Prelude.{◌≡◌};
-ghost use Rattle.lie_work.specs.Causes.{not_read, not_solved, not_done, not_analysed, put_outcome};
+ghost use Rattle.lie_work.specs.Causes.{not_read, not_solved, not_done, not_analysed, no_basis, put_outcome};
 
 use crate::outcome::{Failure, NoText, Outcome, Refusal};
 use crate::source::Source;
 use lie_analysis::Unfinished;
+use lie_degree::DegreeStop;
 use lie_outer::SinkFail;
 use lie_ring::PolyFail;
 use lie_scan::fault::ReadFail;
@@ -48,6 +49,16 @@ pub fn not_analysed(budget: u64, fail: Unfinished) -> NoText
         Unfinished::Past { step, what } => NoText::Refused(Refusal::Past { step, what }),
         Unfinished::Spent => NoText::Refused(Refusal::Spent { steps: budget }),
         Unfinished::NoMemory => NoText::NoMemory,
+    }
+}
+
+/// A system without a basis up to a degree.
+pub fn no_basis(fail: DegreeStop) -> NoText
+    ensures { result ≡ no_basis fail }
+{
+    match fail {
+        DegreeStop::Past { step, what } => NoText::Refused(Refusal::Past { step, what }),
+        DegreeStop::NoMemory => NoText::NoMemory,
     }
 }
 

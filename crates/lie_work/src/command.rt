@@ -9,4 +9,6 @@ pub enum FileCommand<T> {
     Check(T),
     /// Its symmetries: the steps that the run of its determining equations may make.
     Analyse(u64),
+    /// Its symmetries up to a degree.
+    Degree(u8),
 }

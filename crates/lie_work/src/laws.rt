@@ -6,6 +6,7 @@ ghost use Rattle.lie_work.specs.Laws.{SomeWorkIsDue};
 
 use lie_analysis::laws::{analysis_is_unique, some_answer_is_due};
 use lie_check::laws::actions_are_not_within_and_past;
+use lie_degree::laws::some_answer_is_due as some_basis_is_due;
 use lie_determining::laws::opening_is_not_within_and_past;
 
 /// Some outcome of a command is due for any bytes. It rests on the laws that the work is not both within the limits and past one, and
@@ -16,6 +17,7 @@ pub fn some_work_is_due()
     actions_are_not_within_and_past();
     opening_is_not_within_and_past();
     some_answer_is_due();
+    some_basis_is_due();
 }
 
 /// The report of the symmetries is a function of the bytes of the file: whatever the budgets, a file has one at most.

@@ -5,6 +5,7 @@ pub mod analyse;
 mod causes;
 mod checking;
 mod command;
+mod degree;
 mod determine;
 pub mod laws;
 mod outcome;

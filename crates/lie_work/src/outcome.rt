@@ -51,6 +51,8 @@ pub enum Failure {
     WriteFault,
     /// The keeper of studies failed.
     KeeperFault,
+    /// The service could not listen, or open a connection.
+    LinkFault,
 }
 
 /// How a call went.

@@ -21,8 +21,14 @@ returns-in-Check-clause-cause c = rw (c.in-Check.is, ← c.as_bytes.ensures.valu
 pub returns-in-Check-clause-due : goal.returns-in-Check-clause-due
 returns-in-Check-clause-due c = rw (c.in-Check.is, ← c.as_bytes.ensures.value) (λ due d. c.check_of.ensures.due c.args.bytes.now due c.in-Ok.ensures.solved d)
 
+pub returns-in-Analyse-clause-cause : goal.returns-in-Analyse-clause-cause
+returns-in-Analyse-clause-cause c = rw c.in-Analyse.is (if_err c.symmetries_of.result _ _ (λ none cause. cause c.args.bytes.now c.in-Ok.ensures.solved) c.symmetries_of.ensures.cause)
+
+pub returns-in-Analyse-clause-due : goal.returns-in-Analyse-clause-due
+returns-in-Analyse-clause-due c = rw c.in-Analyse.is (λ due d. c.symmetries_of.ensures.due c.args.bytes.now due c.in-Ok.ensures.solved d)
+
 pub returns-clause-cause : goal.returns-clause-cause
-returns-clause-cause c = rw c.in-Analyse.is (if_err c.symmetries_of.result _ _ (λ none cause. cause c.args.bytes.now c.in-Ok.ensures.solved) c.symmetries_of.ensures.cause)
+returns-clause-cause c = rw c.in-Degree.is (if_err c.degree_of.result _ _ (λ none cause. cause c.args.bytes.now c.in-Ok.ensures.solved) c.degree_of.ensures.cause)
 
 pub returns-clause-due : goal.returns-clause-due
-returns-clause-due c = rw c.in-Analyse.is (λ due d. c.symmetries_of.ensures.due c.args.bytes.now due c.in-Ok.ensures.solved d)
+returns-clause-due c = rw c.in-Degree.is (λ due d. c.degree_of.ensures.due c.args.bytes.now due c.in-Ok.ensures.solved d)

@@ -1,0 +1,4 @@
+-- The definitions that the contracts cite.
+pub mod Family
+pub mod Numbers
+pub mod Members
