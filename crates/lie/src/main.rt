@@ -2,7 +2,7 @@
 #![tactic(auto)]
 
 use lie_app::{Status, code, run};
-use lie_outer::{HostFiles, HostSink, NoMemory};
+use lie_outer::{HostFiles, HostLink, HostSink, NoMemory};
 use lie_sql::SqlKeeper;
 use std::process::ExitCode;
 use std::{env, io};
@@ -34,7 +34,16 @@ fn perform(rt: &HostRuntime) -> Result<Status, NoMemory> {
     let mut out = HostSink::out(rt, alloc)?;
     let mut err = HostSink::err(rt, alloc)?;
     let mut keeper = SqlKeeper::new(rt, alloc, DESK)?;
-    Ok(run(alloc, &words, &mut files, &mut out, &mut err, &mut keeper))
+    let mut link = HostLink::new(rt, alloc)?;
+    Ok(run(
+        alloc,
+        &words,
+        &mut files,
+        &mut out,
+        &mut err,
+        &mut keeper,
+        &mut link,
+    ))
 }
 
 fn main(rt: HostRuntime) -> ExitCode {

@@ -59,7 +59,16 @@ all_have_places = (
       λ read. (refl, refl, tt, refl, refl),
       (
         λ read. (refl, refl, (refl, tt), refl, (refl, refl, tt, refl, refl)),
-        (λ read. refl, (λ read. (refl, refl, tt, refl, refl), (λ read. (refl, refl, tt, refl, refl), tt))),
+        (
+          λ read. (refl, refl, tt, refl, refl),
+          (
+            λ read. (refl, refl, tt, refl, refl),
+            (
+              λ read. (refl, refl, (refl, tt), refl, (refl, refl, tt, refl, refl)),
+              (λ read. refl, (λ read. (refl, refl, tt, refl, refl), (λ read. (refl, refl, tt, refl, refl), tt))),
+            ),
+          ),
+        ),
       ),
     ),
   ),

@@ -10,4 +10,6 @@ pub mod Numbers
 pub mod StudyNames
 pub mod Outcomes
 pub mod StudiesOnFiles
+pub mod Samples
+mod Services
 pub mod SomeDue

@@ -11,9 +11,10 @@ use Rattle.lie_work.specs.declared.outcome.Outcome.{Outcome}
 use Rattle.lie_work.specs.declared.outcome.Outcome.TheVariants.{Refused, Failed}
 use Rattle.lie_work.specs.declared.outcome.Refusal.{Refusal}
 use Rattle.lie_work.specs.declared.outcome.Refusal.TheVariants.{Bad}
-use Rattle.lie_work.specs.declared.outcome.Failure.TheVariants.{ReadFault, WriteFault, KeeperFault}
+use Rattle.lie_work.specs.declared.outcome.Failure.TheVariants.{ReadFault, WriteFault, KeeperFault, LinkFault}
 use Rattle.lie_work.specs.declared.source.Source.TheVariants.{File}
 use Rattle.lie_app.specs.OnFile.{IsContent, IsRefusedOnFile, work, HasFileCause, IsDueOnFile, due_missing, due_work}
+use Rattle.lie_app.specs.OnDesk.{HasRefusal}
 use Rattle.lie_app.specs.Outside.{Outside, ToldFiles}
 use Rattle.lie_app.specs.Run.{IsDue, IsComplete, IsStopped}
 use Rattle.lie_work.specs.SolvedFile.{bad_file}
@@ -34,6 +35,13 @@ no_keeper_fault c bytes outcome done e = absurd (cc)
 no_keeper_fault c bytes outcome (refused refusal h) e = absurd (cc)
 no_keeper_fault c bytes outcome no_memory e = absurd (cc)
 no_keeper_fault c bytes outcome write_fault e = absurd (cc)
+
+-- a command on a file or on the desk has no fault of the link
+pub no_link_on_file : (told : ToldFiles) (path : List ℕ) (c : AnyFileCommand) (outcome : Outcome) → HasFileCause told path c outcome → outcome ≡ Failed LinkFault → ⊥
+no_link_on_file told path c outcome h e = subst (HasFileCause told path c) e h
+
+pub no_link_on_desk : (P : Refusal → Type 0) (outcome : Outcome) → HasRefusal P outcome → outcome ≡ Failed LinkFault → ⊥
+no_link_on_desk P outcome h e = subst (HasRefusal P) e h
 
 -- a file that is too long is refused for it
 abbrev pub longest : Refusal
@@ -77,13 +85,14 @@ due_when_long held path c due long (due_work files bs d e at w) =
     let more : 65536 < length bs = subst (λ o. IsSomeAnd o (λ bytes. 65536 < length bytes)) at (told held (λ fs. IsSomeAnd (file_at fs path) (λ bytes. 65536 < length bytes)) files e long) in
     inl (inl (file_answered c bs longest d (bad_file (record { line = 1; column = 1; kind = TooLong }) (too_long (omega arith))) w))
 
-pub is_complete : (outside : Outside) (command : Option AnyCommand) (R W K : Type 0) (outcome : Outcome)
+pub is_complete : (outside : Outside) (command : Option AnyCommand) (R W K L : Type 0) (outcome : Outcome)
     → ((c : AnyCommand) (due : Outcome) → command ≡ Some c → IsDue outside c due → IsStopped due outcome)
-    → (outcome ≡ Failed ReadFault → R) → (outcome ≡ Failed WriteFault → W) → (outcome ≡ Failed KeeperFault → K)
-    → IsComplete outside command R W K outcome
-is_complete outside command R W K outcome h r w k c due is d nr nw nk =
+    → (outcome ≡ Failed ReadFault → R) → (outcome ≡ Failed WriteFault → W) → (outcome ≡ Failed KeeperFault → K) → (outcome ≡ Failed LinkFault → L)
+    → IsComplete outside command R W K L outcome
+is_complete outside command R W K L outcome h r w k l c due is d nr nw nk nl =
     elim (h c due is d) [
       | inl (inl answered) ↦ answered
       | inl (inr faults) ↦ absurd (elim faults [ inl e ↦ nr (r e) | inr e ↦ nw (w e) ])
-      | inr e ↦ absurd (nk (k e))
+      | inr (inl e) ↦ absurd (nk (k e))
+      | inr (inr e) ↦ absurd (nl (l e))
     ]

@@ -1,6 +1,6 @@
 -- For any files and rows that are told some outcome of any command is due.
-use Rattle.std.specs.Prelude.{ℕ, ◌≡◌, List, Some, None, IsSome}
-use Rattle.std.proofs.Common.{refl, sym, ap}
+use Rattle.std.specs.Prelude.{ℕ, ◌≡◌, List, Some, None}
+use Rattle.std.proofs.Common.{refl}
 use Rattle.std.specs.declared.option.Option.{Option}
 use Rattle.lie_outer.specs.Files.{file_at}
 use Rattle.lie_outer.specs.Rows.{row_named}
@@ -12,7 +12,8 @@ use Rattle.lie_work.specs.declared.outcome.Outcome.TheVariants.{Done, Refused}
 use Rattle.lie_work.specs.declared.outcome.Refusal.TheVariants.{Missing}
 use Rattle.lie_desk.specs.Due.{IsNameDue, due_missing as name_missing, due_named}
 use Rattle.lie_desk.specs.Laws.{SomeStudyIsDue}
-use Rattle.lie_app.specs.declared.words.Command.TheVariants.{OnFile, OnDesk}
+use Rattle.lie_app.specs.declared.words.Command.TheVariants.{OnFile, OnDesk, Sample, OnLink}
+use Rattle.lie_sample.specs.Members.{SomeSampleIsDue}
 use Rattle.lie_app.specs.declared.words.DeskCommand.TheVariants as desk
 use Rattle.lie_app.specs.OnDesk.{IsStudyCommandDue, due_no_file, due_study, IsDueOnDesk}
 use Rattle.lie_app.specs.OnFile.{IsDueOnFile, due_missing, due_work}
@@ -51,7 +52,9 @@ module _ (files : List (List ℕ × List ℕ)) (rows : List Row) where
   some_on_desk some (desk.Show name) none = some_named name (λ due h. none due (record { rows = rows; told = refl; due_here = h }))
   some_on_desk some (desk.Drop name) none = some_named name (λ due h. none due (record { rows = rows; told = refl; due_here = h }))
 
-pub some_outcome_is_due : SomeWorkIsDue → SomeStudyIsDue
+pub some_outcome_is_due : SomeWorkIsDue → SomeStudyIsDue → SomeSampleIsDue
     → (files : List (List ℕ × List ℕ)) (rows : List Row) (c : AnyCommand) → ¬ ((due : Outcome) → ¬ (IsDue (outside (Some files) (Some rows)) c due))
-some_outcome_is_due work study files rows (OnFile path c) none = some_on_file work files path c none
-some_outcome_is_due work study files rows (OnDesk c) none = some_on_desk files rows study c none
+some_outcome_is_due work study sample files rows (OnFile path c) none = some_on_file work files path c none
+some_outcome_is_due work study sample files rows (OnDesk c) none = some_on_desk files rows study c none
+some_outcome_is_due work study sample files rows (Sample last budget) none = sample last budget none
+some_outcome_is_due work study sample files rows (OnLink address count budget) none = none Done refl

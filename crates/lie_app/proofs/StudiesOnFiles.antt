@@ -1,6 +1,6 @@
 -- What is so of a study of the bytes that were read is so of the file.
 use Rattle.std.specs.Prelude.{ℕ, ◌≡◌, ◌<◌, List, length, Option, Some, None, IfSome, IsSomeAnd, refl}
-use Rattle.std.proofs.Common.{sym, subst, arith, inl, inr}
+use Rattle.std.proofs.Common.{subst, arith, inl}
 use Rattle.std.specs.List.{range_with_len}
 use Rattle.std.proofs.lemmas.List.FromFn.{length-range_with_len}
 use Rattle.lie_scan.specs.declared.fault.BadKind.TheVariants.{TooLong}
@@ -10,14 +10,13 @@ use Rattle.lie_outer.specs.declared.rows.Row.{Row}
 use Rattle.lie_work.specs.SolvedFile.{IsFileRefusal, bad_file}
 use Rattle.lie_work.specs.declared.outcome.Outcome.{Outcome}
 use Rattle.lie_work.specs.declared.outcome.Outcome.TheVariants.{Done, Refused, Failed}
-use Rattle.lie_work.specs.declared.outcome.Refusal.{Refusal}
-use Rattle.lie_work.specs.declared.outcome.Refusal.TheVariants.{Bad, Missing}
-use Rattle.lie_work.specs.declared.source.Source.TheVariants.{File}
+use Rattle.lie_work.specs.declared.outcome.Failure.TheVariants.{NoMemory, ReadFault, WriteFault, KeeperFault, LinkFault}
+use Rattle.lie_work.specs.declared.outcome.Refusal.TheVariants.{Missing}
 use Rattle.lie_desk.specs.Desk as studies
 use Rattle.lie_desk.specs.Desk.{IsStudyRefusal}
 use Rattle.lie_desk.specs.Due.{IsStudyDue}
 use Rattle.lie_desk.proofs.RefusedFiles.{refused_file_due}
-use Rattle.lie_app.specs.OnDesk.{HasRefusal, IsStudyRefused, no_file, no_study, IsStudyCommandDue, due_no_file, due_study}
+use Rattle.lie_app.specs.OnDesk.{HasRefusal, IsStudyRefused, no_study, IsStudyCommandDue, due_no_file, due_study}
 use Rattle.lie_app.specs.OnFile.{IsContent}
 use Rattle.lie_app.specs.Outside.{ToldFiles, outside}
 use Rattle.lie_app.specs.Run.{IsStopped}
@@ -29,7 +28,11 @@ module _ (held : ToldFiles) (rows : Option (List Row)) (name path : List ℕ) (b
       → HasRefusal (IsStudyRefused (outside held rows) name path budget) outcome
   study_refused bytes Done content h = tt
   study_refused bytes (Refused refusal) content h = no_study refusal bytes content h
-  study_refused bytes (Failed failure) content h = tt
+  study_refused bytes (Failed NoMemory) content h = tt
+  study_refused bytes (Failed ReadFault) content h = tt
+  study_refused bytes (Failed WriteFault) content h = tt
+  study_refused bytes (Failed KeeperFault) content h = tt
+  study_refused bytes (Failed LinkFault) content h = h
 
   pub study_due : (bytes : List ℕ) (outcome due : Outcome) → IsContent held path bytes
       → ((rs : List Row) (d : Outcome) → rows ≡ Some rs → IsStudyDue name bytes budget rs d → IsStopped d outcome)

@@ -65,10 +65,11 @@ IsRefusedOnDesk outside commands.List refusal = ⊥
 IsRefusedOnDesk outside (commands.Show name) refusal = IsNameRefusal name outside.rows refusal
 IsRefusedOnDesk outside (commands.Drop name) refusal = IsNameRefusal name outside.rows refusal
 
--- where an outcome is a refusal, it is one of these
+-- where an outcome is a refusal, it is one of these; no link is at fault
 abbrev pub HasRefusal : (Refusal → Type 0) → Outcome → Type 0
 HasRefusal is_refusal Done = Unit {0}
 HasRefusal is_refusal (Refused refusal) = is_refusal refusal
+HasRefusal is_refusal (Failed failures.LinkFault) = ⊥
 HasRefusal is_refusal (Failed failure) = Unit {0}
 
 -- ---- which outcome is due, where files and rows are told
@@ -105,4 +106,5 @@ LeavesRows starved old new (Refused refusal) = new ≡ old
 LeavesRows starved old new (Failed failures.NoMemory) = (new ≡ old) ⊎ starved
 LeavesRows starved old new (Failed failures.ReadFault) = new ≡ old
 LeavesRows starved old new (Failed failures.KeeperFault) = new ≡ old
+LeavesRows starved old new (Failed failures.LinkFault) = new ≡ old
 LeavesRows starved old new (Failed failures.WriteFault) = Unit {0}

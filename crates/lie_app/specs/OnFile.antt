@@ -3,6 +3,7 @@ use Rattle.std.specs.Prelude.{ℕ, ◌≡◌, List, IfSome, Some, None}
 use Rattle.lie_outer.specs.Files.{file_at}
 use Rattle.lie_work.specs.declared.outcome.Outcome.{Outcome}
 use Rattle.lie_work.specs.declared.outcome.Outcome.TheVariants.{Done, Refused, Failed}
+use Rattle.lie_work.specs.declared.outcome.Failure.TheVariants.{LinkFault}
 use Rattle.lie_work.specs.declared.outcome.Refusal.{Refusal}
 use Rattle.lie_work.specs.declared.outcome.Refusal.TheVariants.{Missing}
 use Rattle.lie_app.specs.Outside.{ToldFiles}
@@ -29,10 +30,11 @@ pub data IsRefusedOnFile (told : ToldFiles) (path : List ℕ) (c : AnyFileComman
   work : (refusal : Refusal) (bytes : List ℕ) → IsContent told path bytes → IsWorkRefusal c bytes refusal
       → IsRefusedOnFile told path c refusal
 
--- what an outcome says of the file
+-- what an outcome says of the file; no link is at fault
 abbrev pub HasFileCause : ToldFiles → List ℕ → AnyFileCommand → Outcome → Type 0
 HasFileCause told path c Done = Unit {0}
 HasFileCause told path c (Refused refusal) = IsRefusedOnFile told path c refusal
+HasFileCause told path c (Failed LinkFault) = ⊥
 HasFileCause told path c (Failed failure) = Unit {0}
 
 -- which outcome is due, where the files are told

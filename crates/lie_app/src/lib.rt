@@ -4,12 +4,9 @@
 pub mod laws;
 mod on_desk;
 mod on_file;
-mod status;
-mod status_line;
+mod on_link;
 mod top;
 mod words;
 
-pub use lie_work::Source;
-pub use status::{Status, code};
-pub use status_line::line;
+pub use lie_status::{Source, Status, code, line};
 pub use top::run;

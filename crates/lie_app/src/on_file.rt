@@ -4,7 +4,7 @@ ghost use Rattle.lie_outer.specs.Causes.{Rose};
 ghost use Rattle.lie_work.specs.declared.outcome.Outcome.{Outcome as AnOutcome};
 ghost use Rattle.lie_app.specs.OnFile.{IsFileOutput, HasFileCause, IsDueOnFile};
 ghost use Rattle.lie_app.specs.Run.{LeavesOut};
-ghost use Rattle.lie_work.specs.Commands.{file_in_words, HasFileBudget};
+ghost use Rattle.lie_work.specs.Commands.{file_in_words, HasFileNumbers};
 ghost use Rattle.lie_work.specs.Work.{IsTextOf, IsWorkDue, IsWorkOutcome, IsEnded};
 
 use lie_outer::{FileFail, Files, Sink};
@@ -21,7 +21,7 @@ pub const TOO_LONG: BadFile = BadFile {
 
 // Puts what the command makes of the bytes of its file.
 fn answer<O: Sink>(alloc: Global, command: &FileCommand<&str>, bytes: &[u8], out: &mut O) -> Outcome
-    requires { HasFileBudget command.now }
+    requires { HasFileNumbers command.now }
     ensures cause { IsWorkOutcome (file_in_words (λ w. w.now) command.now) bytes.now result }
     ensures due { (due : AnOutcome) → IsWorkDue (file_in_words (λ w. w.now) command.now) bytes.now due → IsEnded due result }
     ensures out { LeavesOut O.taken O.fault_count O.starved_count out.old out.new
@@ -42,7 +42,7 @@ pub fn on_file<F: Files, O: Sink>(
     files: &mut F,
     out: &mut O,
 ) -> Outcome
-    requires { HasFileBudget command.now }
+    requires { HasFileNumbers command.now }
     ensures cause { HasFileCause (F.held files.old) path.now (file_in_words (λ w. w.now) command.now) result }
     ensures read_fault { result ≡ Outcome.Failed Failure.ReadFault → Rose (F.fault_count files.old) (F.fault_count files.new) }
     ensures kept { F.held files.new ≡ F.held files.old }

@@ -2,16 +2,20 @@
 ghost use Rattle.std.specs.Prelude.{◌≡◌, ◌≤◌, [], map, IfOk, IfSome, option_map, false};
 ghost use Rattle.clap.specs.Words.{app_of, found_of, rows_of, rule_of, subcommand_rows_of};
 ghost use Rattle.lie_analysis.specs.Limits.{greatest_budget};
-ghost use Rattle.lie_app.specs.Words.{texts, in_words, command_of, budget_of, number_in, name_in, study_of, study_name_in};
-ghost use Rattle.lie_app.specs.Words.{HasBudget, IsReady, IsNoDeskWord};
+ghost use Rattle.lie_degree.specs.Columns.{greatest_degree};
+ghost use Rattle.lie_app.specs.Words.{texts, in_words, command_of, budget_of, number_in, degree_in, member_in, count_in, name_in};
+ghost use Rattle.lie_app.specs.Words.{study_of, study_name_in, sample_of, serve_of, HasNumbers, IsReady, IsNoOtherWord};
 ghost use Rattle.lie_outer.specs.Names.{IsStudyName};
+ghost use Rattle.lie_sample.specs.Family.{least_member, greatest_member};
 ghost use Rattle.clap.specs.Walk.{first_of};
 ghost use Rattle.lie_app.specs.Interface.{argument, option, interface, subcommand, has_globals, named_met, command_met};
 
 use clap::error::ErrorKind;
 use clap::{Arg, ArgMatches};
 use lie_analysis::MAX_BUDGET;
+use lie_degree::MAX_DEGREE;
 use lie_outer::is_name;
+use lie_sample::{MAX_MEMBER, MIN_MEMBER};
 use lie_work::FileCommand;
 use std::alloc::{AllocError, Global};
 
@@ -22,6 +26,10 @@ pub enum Command<T> {
     OnFile(T, FileCommand<T>),
     /// Something is asked of the desk.
     OnDesk(DeskCommand<T>),
+    /// The numbers of the growing family up to this member are asked for, with the steps that each run may make.
+    Sample(u64, u64),
+    /// Connections are served: the address, how many, and the steps that each run may make.
+    OnLink(T, u32, u64),
 }
 
 /// What is asked of the desk, where studies are kept by name.
@@ -88,6 +96,9 @@ fn interface<'a>(alloc: Global) -> Result<clap::Command<'a>, AllocError>
         .subcommand(subcommand(alloc, "determine", &["path"], &[])?)?
         .subcommand(subcommand(alloc, "check", &["path", "field"], &[])?)?
         .subcommand(subcommand(alloc, "analyse", &["path"], &["steps"])?)?
+        .subcommand(subcommand(alloc, "degree", &["path", "degree"], &[])?)?
+        .subcommand(subcommand(alloc, "sample", &["last"], &["steps"])?)?
+        .subcommand(subcommand(alloc, "serve", &["address"], &["count", "steps"])?)?
         .subcommand(subcommand(alloc, "study", &["name", "path"], &["steps"])?)?
         .subcommand(subcommand(alloc, "list", &[], &[])?)?
         .subcommand(subcommand(alloc, "show", &["name"], &[])?)?
@@ -104,6 +115,7 @@ const BUDGET_DIGITS: usize = 8;
 fn number_in(text: &str, most_digits: usize, least: u64, greatest: u64) -> Option<u64>
     ensures number { result ≡ number_in most_digits least greatest text.now }
     ensures bound { IfSome result (λ n. n ≤ greatest) }
+    ensures from { IfSome result (λ n. least ≤ n) }
 {
     if text.len() > most_digits || text.starts_with('+') {
         return None;
@@ -124,6 +136,48 @@ fn budget_of(steps: Option<&str>) -> Option<u64>
         Some(text) => number_in(text, BUDGET_DIGITS, 1, MAX_BUDGET),
         None => Some(DEFAULT_BUDGET),
     }
+}
+
+// How many connections may be served.
+const MAX_COUNT: u64 = 1_000_000;
+
+// The digits that this number may have in the words.
+const COUNT_DIGITS: usize = 7;
+
+// How many connections are served, by the value of `--count`.
+fn count_in(text: &str) -> Option<u32>
+    ensures { result ≡ count_in text.now }
+{
+    match number_in(text, COUNT_DIGITS, 1, MAX_COUNT) {
+        Some(number) => Some(number as u32),
+        None => None,
+    }
+}
+
+// The digits that a degree may have in the words.
+const DEGREE_DIGITS: usize = 1;
+
+// The degree that a text of digits writes.
+fn degree_in(text: &str) -> Option<u8>
+    ensures degree { result ≡ degree_in text.now }
+    ensures low { IfSome result (λ d. d ≤ greatest_degree) }
+{
+    match number_in(text, DEGREE_DIGITS, 0, u64::from(MAX_DEGREE)) {
+        Some(number) => Some(number as u8),
+        None => None,
+    }
+}
+
+// The digits that the number of a member of the growing family may have in the words.
+const MEMBER_DIGITS: usize = 2;
+
+// The number of a member that a text of digits writes.
+fn member_in(text: &str) -> Option<u64>
+    ensures member { result ≡ member_in text.now }
+    ensures least { IfSome result (λ k. least_member ≤ k) }
+    ensures greatest { IfSome result (λ k. k ≤ greatest_member) }
+{
+    number_in(text, MEMBER_DIGITS, MIN_MEMBER, MAX_MEMBER)
 }
 
 // The text, where it is the name of a study.
@@ -148,7 +202,7 @@ fn study_name<'a>(arguments: &ArgMatches<'a>) -> Option<&'a str>
 
 // The study that the values ask for.
 fn study_met<'a>(arguments: &ArgMatches<'a>) -> Option<Command<&'a str>>
-    ensures few { IfSome result HasBudget }
+    ensures few { IfSome result HasNumbers }
     ensures ready { IfSome result (λ c. IsReady (in_words (λ w. w.now) c)) }
     ensures met { option_map (in_words (λ w. w.now)) result ≡ study_of (λ id. first_of id (rows_of (found_of arguments.now))) }
 {
@@ -158,25 +212,51 @@ fn study_met<'a>(arguments: &ArgMatches<'a>) -> Option<Command<&'a str>>
     Some(Command::OnDesk(DeskCommand::Study(name, path, budget)))
 }
 
+// The numbers of the growing family that the values ask for.
+fn sample_met<'a>(arguments: &ArgMatches<'a>) -> Option<Command<&'a str>>
+    ensures few { IfSome result HasNumbers }
+    ensures ready { IfSome result (λ c. IsReady (in_words (λ w. w.now) c)) }
+    ensures met { option_map (in_words (λ w. w.now)) result ≡ sample_of (λ id. first_of id (rows_of (found_of arguments.now))) }
+{
+    let text = arguments.get_str("last")?;
+    let last = member_in(text)?;
+    let budget = budget_of(arguments.get_str("steps"))?;
+    Some(Command::Sample(last, budget))
+}
+
+// The service that the values ask for.
+fn service_met<'a>(arguments: &ArgMatches<'a>) -> Option<Command<&'a str>>
+    ensures few { IfSome result HasNumbers }
+    ensures ready { IfSome result (λ c. IsReady (in_words (λ w. w.now) c)) }
+    ensures met { option_map (in_words (λ w. w.now)) result ≡ serve_of (λ id. first_of id (rows_of (found_of arguments.now))) }
+{
+    let address = arguments.get_str("address")?;
+    let count = count_in(arguments.get_str("count")?)?;
+    let budget = budget_of(arguments.get_str("steps"))?;
+    Some(Command::OnLink(address, count, budget))
+}
+
 // The command of a name, with the values of its arguments.
 fn named_met<'a>(name: &str, arguments: &ArgMatches<'a>) -> Option<Command<&'a str>>
-    ensures few { IfSome result HasBudget }
+    ensures few { IfSome result HasNumbers }
     ensures ready { IfSome result (λ c. IsReady (in_words (λ w. w.now) c)) }
     ensures met { option_map (in_words (λ w. w.now)) result ≡ named_met name.now (rows_of (found_of arguments.now)) }
 {
     match name {
+        "sample" => sample_met(arguments),
         "study" => study_met(arguments),
         "list" => Some(Command::OnDesk(DeskCommand::List)),
         "show" => Some(Command::OnDesk(DeskCommand::Show(study_name(arguments)?))),
         "drop" => Some(Command::OnDesk(DeskCommand::Drop(study_name(arguments)?))),
+        "serve" => service_met(arguments),
         _ => file_met(name, arguments),
     }
 }
 
 // The command on a file of a name, with the values of its arguments.
 fn file_met<'a>(name: &str, arguments: &ArgMatches<'a>) -> Option<Command<&'a str>>
-    requires { IsNoDeskWord name.now }
-    ensures few { IfSome result HasBudget }
+    requires { IsNoOtherWord name.now }
+    ensures few { IfSome result HasNumbers }
     ensures ready { IfSome result (λ c. IsReady (in_words (λ w. w.now) c)) }
     ensures met { option_map (in_words (λ w. w.now)) result ≡ named_met name.now (rows_of (found_of arguments.now)) }
 {
@@ -188,13 +268,17 @@ fn file_met<'a>(name: &str, arguments: &ArgMatches<'a>) -> Option<Command<&'a st
             path,
             FileCommand::Analyse(budget_of(arguments.get_str("steps"))?),
         )),
+        "degree" => {
+            let text = arguments.get_str("degree")?;
+            Some(Command::OnFile(path, FileCommand::Degree(degree_in(text)?)))
+        }
         _ => None,
     }
 }
 
 // The command that was met, with the values of its arguments.
 fn command_met<'a>(found: &ArgMatches<'a>) -> Option<Command<&'a str>>
-    ensures few { IfSome result HasBudget }
+    ensures few { IfSome result HasNumbers }
     ensures ready { IfSome result (λ c. IsReady (in_words (λ w. w.now) c)) }
     ensures met { option_map (in_words (λ w. w.now)) result ≡ command_met (subcommand_rows_of found.now) }
 {
@@ -203,14 +287,15 @@ fn command_met<'a>(found: &ArgMatches<'a>) -> Option<Command<&'a str>>
 }
 
 /// The command that the words are: `determine` and a path, or `check`, a path and the text of a field, or `analyse` and a path, with
-/// `--steps` and a number at any place; or `study`, a name and a path, with `--steps` too, or `list`, or `show` or `drop` and a name;
-/// `None` for any other words. A word `--` makes all later words arguments; before it a word that
-/// begins with a dash, and isn't the dash alone, is an option of the command or refused. It fails only for want of memory.
+/// `--steps` and a number at any place; or `degree`, a path and a digit up to 8; or `sample` and a number from 2 to 32, with `--steps`
+/// too; or `serve` and an address, with `--count` and a number, and `--steps` too; or `study`, a name and a path, with `--steps` too, or
+/// `list`, or `show` or `drop` and a name; `None` for any other words. A word `--` makes all later words arguments; before it a word
+/// that begins with a dash, and isn't the dash alone, is an option of the command or refused. It fails only for want of memory.
 pub fn command_of<'a>(
     alloc: Global,
     words: &'a [String],
 ) -> Result<Option<Command<&'a str>>, AllocError>
-    ensures few { IfOk result (λ c. IfSome c HasBudget) }
+    ensures few { IfOk result (λ c. IfSome c HasNumbers) }
     ensures ready { IfOk result (λ found. IfSome found (λ c. IsReady (in_words (λ w. w.now) c))) }
     ensures command { IfOk result (λ c. option_map (in_words (λ w. w.now)) c ≡ command_of (texts words.now)) }
 {

@@ -3,7 +3,7 @@
 
 use lie_app::{Status, code, run};
 use lie_keep::MemoryKeeper;
-use lie_outer::{HostFiles, HostSink, NoMemory};
+use lie_outer::{HostFiles, HostSink, MemoryLink, NoMemory};
 use std::alloc::Global;
 use std::process::ExitCode;
 
@@ -72,9 +72,18 @@ fn put_reports(rt: &HostRuntime) -> Result<Status, NoMemory> {
     let mut out = HostSink::out(rt, alloc)?;
     let mut err = HostSink::err(rt, alloc)?;
     let mut keeper = MemoryKeeper::new(Vec::new(alloc), Vec::new(alloc));
+    let mut link = MemoryLink::new(Vec::new(alloc), Vec::new(alloc));
     for file in FILES {
         let words = words_for(alloc, file)?;
-        let status = run(alloc, &words, &mut files, &mut out, &mut err, &mut keeper);
+        let status = run(
+            alloc,
+            &words,
+            &mut files,
+            &mut out,
+            &mut err,
+            &mut keeper,
+            &mut link,
+        );
         if !matches!(status, Status::Done) {
             return Ok(status);
         }

@@ -19,4 +19,8 @@ returns c =
     let four = c.in_ok-subcommand-8.ensures.shape c.in_ok-subcommand-7.ensures.local ∙ ap₂ with_subcommand three (ap top c.in_ok-subcommand-7.ensures.shape) in
     let five = c.in_ok-subcommand-10.ensures.shape c.in_ok-subcommand-9.ensures.local ∙ ap₂ with_subcommand four (ap top c.in_ok-subcommand-9.ensures.shape) in
     let six = c.in_ok-subcommand-12.ensures.shape c.in_ok-subcommand-11.ensures.local ∙ ap₂ with_subcommand five (ap top c.in_ok-subcommand-11.ensures.shape) in
-    IfOk-weaker c.subcommand-14.result _ _ (λ r added. added.shape c.in_ok-subcommand-13.ensures.local ∙ ap₂ with_subcommand six (ap top c.in_ok-subcommand-13.ensures.shape)) c.subcommand-14.ensures
+    let seven = c.in_ok-subcommand-14.ensures.shape c.in_ok-subcommand-13.ensures.local ∙ ap₂ with_subcommand six (ap top c.in_ok-subcommand-13.ensures.shape) in
+    let eight = c.in_ok-subcommand-16.ensures.shape c.in_ok-subcommand-15.ensures.local ∙ ap₂ with_subcommand seven (ap top c.in_ok-subcommand-15.ensures.shape) in
+    let nine = c.in_ok-subcommand-18.ensures.shape c.in_ok-subcommand-17.ensures.local ∙ ap₂ with_subcommand eight (ap top c.in_ok-subcommand-17.ensures.shape) in
+    IfOk-weaker c.subcommand-20.result _ _ (λ r added. added.shape c.in_ok-subcommand-19.ensures.local
+    ∙ ap₂ with_subcommand nine (ap top c.in_ok-subcommand-19.ensures.shape)) c.subcommand-20.ensures
