@@ -2,7 +2,7 @@
 use crate::path_tests::{puts, tells};
 use lie_app::{Source, Status, code, run};
 use lie_keep::MemoryKeeper;
-use lie_outer::{Bytes, MemoryFiles, MemorySink, Text};
+use lie_outer::{Bytes, MemoryFiles, MemoryLink, MemorySink, Text};
 use lie_scan::fault::{BadFile, BadKind};
 use lie_solved::NotKind;
 use std::alloc::Global;
@@ -28,7 +28,16 @@ fn code_of(
     let mut out = MemorySink::new(Bytes::of(alloc, b"")?, puts.to_vec(alloc)?);
     let mut err = MemorySink::new(Bytes::of(alloc, b"")?, error_puts.to_vec(alloc)?);
     let mut keeper = MemoryKeeper::new(Vec::new(alloc), Vec::new(alloc));
-    let status = run(alloc, &words, &mut files, &mut out, &mut err, &mut keeper);
+    let mut link = MemoryLink::new(Vec::new(alloc), Vec::new(alloc));
+    let status = run(
+        alloc,
+        &words,
+        &mut files,
+        &mut out,
+        &mut err,
+        &mut keeper,
+        &mut link,
+    );
     Ok(code(&status))
 }
 

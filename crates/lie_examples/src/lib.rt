@@ -4,7 +4,9 @@
 #[cfg(test)]
 mod analyse_tests;
 #[cfg(test)]
-mod desk_tests;
+mod degree_reports;
+#[cfg(test)]
+mod degree_tests;
 #[cfg(test)]
 mod example_files;
 #[cfg(test)]
@@ -17,6 +19,8 @@ mod hostile_tests;
 mod outcome_tests;
 #[cfg(test)]
 mod path_tests;
+#[cfg(test)]
+mod sample_tests;
 #[cfg(test)]
 mod status_tests;
 #[cfg(test)]

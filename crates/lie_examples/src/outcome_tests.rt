@@ -1,7 +1,7 @@
 // The top call over fakes, with ample memory: the text, the line and the status of each outcome.
 use lie_app::{Source, Status, code, run};
 use lie_keep::MemoryKeeper;
-use lie_outer::{Bytes, MemoryFiles, MemorySink, Text};
+use lie_outer::{Bytes, MemoryFiles, MemoryLink, MemorySink, Text};
 use lie_scan::fault::{BadFile, BadKind};
 use lie_solved::NotKind;
 use std::alloc::Global;
@@ -27,7 +27,16 @@ pub fn check(
     let mut out = MemorySink::new(Bytes::of(alloc, b"")?, failing_puts.to_vec(alloc)?);
     let mut err = MemorySink::new(Bytes::of(alloc, b"")?, Vec::new(alloc));
     let mut keeper = MemoryKeeper::new(Vec::new(alloc), Vec::new(alloc));
-    let status = run(alloc, &owned, &mut files, &mut out, &mut err, &mut keeper);
+    let mut link = MemoryLink::new(Vec::new(alloc), Vec::new(alloc));
+    let status = run(
+        alloc,
+        &owned,
+        &mut files,
+        &mut out,
+        &mut err,
+        &mut keeper,
+        &mut link,
+    );
     assert_eq!(rt; code(&status), code(want.0));
     assert_eq!(rt; out.taken(), want.1);
     assert_eq!(rt; err.taken(), want.2);

@@ -1,7 +1,7 @@
 // The commands of the desk over a keeper in memory: what is put, what is told, and which studies are kept.
 use lie_app::{code, run};
 use lie_keep::MemoryKeeper;
-use lie_outer::{Bytes, Keeper, MemoryFiles, MemorySink, Text};
+use lie_outer::{Bytes, Keeper, MemoryFiles, MemoryLink, MemorySink, Text};
 use std::alloc::Global;
 use std::process::Abort;
 use std::test::Fail;
@@ -49,7 +49,10 @@ fn call<K: Keeper>(
     let mut files = MemoryFiles::new(vec![in alloc; slope, growth, still]?, Vec::new(alloc));
     let mut out = MemorySink::new(Bytes::of(alloc, b"")?, failing_puts.to_vec(alloc)?);
     let mut err = MemorySink::new(Bytes::of(alloc, b"")?, Vec::new(alloc));
-    let status = run(alloc, &owned, &mut files, &mut out, &mut err, keeper);
+    let mut link = MemoryLink::new(Vec::new(alloc), Vec::new(alloc));
+    let status = run(
+        alloc, &owned, &mut files, &mut out, &mut err, keeper, &mut link,
+    );
     let mut text = String::new(alloc);
     for byte in out.taken().iter().chain(err.taken().iter()) {
         text.push(char::from(*byte))?;
