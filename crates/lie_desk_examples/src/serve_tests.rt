@@ -115,8 +115,8 @@ fn serves(
 
 #[test]
 fn connections_are_answered(rt: HostRuntime) -> Result<(), Fail> {
-    // The requests, the calls of the link that fail, and then the code, the line and the answers. The first call listens, the second opens a
-    // connection, the third reads, and the fifth opens the next.
+    // The requests, the calls of the link that fail, and then the code, the line and the answers. The first call listens, the second
+    // opens a connection, the third reads, and the fifth opens the next.
     let twice = [Request::Study, Request::Study];
     let rows: [([Request; 2], &[u64], u8, &str, &[Answer]); 7] = [
         (
