@@ -72,9 +72,9 @@ fn put_reports(rt: &HostRuntime) -> Result<Status, NoMemory> {
     let mut out = HostSink::out(rt, alloc)?;
     let mut err = HostSink::err(rt, alloc)?;
     let mut keeper = MemoryKeeper::new(Vec::new(alloc), Vec::new(alloc));
-    let mut link = MemoryLink::new(Vec::new(alloc), Vec::new(alloc));
     for file in FILES {
         let words = words_for(alloc, file)?;
+        let mut link = MemoryLink::new(Vec::new(alloc), Vec::new(alloc));
         let status = run(
             alloc,
             &words,
