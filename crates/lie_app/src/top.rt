@@ -104,11 +104,11 @@ fn tell<E: Sink>(alloc: Global, status: &Status, err: &mut E)
     }
 }
 
-/// Does what the words say, and answers how it went. The words leave out the program's own name; they are `determine` or
-/// `analyse` and the path of a file, or `check`, the path of a file and the text of a field. The report or the line of the check
-/// goes to `out`, and the line of any status but `Done` to `err`. A report of `determine` has the determining equations of the file's
-/// system: the conditions under which a vector field meets its invariance condition (Olver, "Applications of Lie Groups to Differential
-/// Equations", sections 2.3 and 2.4); that of `analyse` has the fields themselves, by a system to which no rule applies.
+/// Does what the words say, and answers how it went. The words leave out the program's own name; `command_of` says which command they
+/// are: one on a file, one of the desk, a sample of the growing family, or a service over the link, on which no connection may be open.
+/// What it puts goes to `out`, and the line of any status but `Done` to `err`. A report of `determine` has the determining equations of
+/// the file's system: the conditions under which a vector field meets its invariance condition (Olver, "Applications of Lie Groups to
+/// Differential Equations", sections 2.3 and 2.4); that of `analyse` has the fields themselves, by a system to which no rule applies.
 pub fn run<F: Files, O: Sink, E: Sink, K: Keeper, L: Link>(
     alloc: Global,
     words: &[String],
